@@ -1,0 +1,3 @@
+-- Document 01, "The allowance".
+pub mod Exact
+pub mod Allowance

@@ -1,0 +1,45 @@
+-- Balance, oxides and dust from what the code keeps of a line's batches: their kg, the largest sulphur, and the sum of kg x ash.
+use Prim.Native.Nat.{ℕ, _+_, _-_, _*_}
+use mathlib.Core.List.{List}
+use lib.Dec.{leb}
+use Rattle.law.specs.Words.{need, sumOf, halvesUp}
+use Rattle.rules.specs.declared.Head.{Head}
+use Rattle.rules.specs.declared.Batch.{Batch}
+use Rattle.rules.specs.declared.Coefficients.{Coefficients}
+use Rattle.rules.specs.declared.Coefficients.the-variants.{Balance, Oxides, Dust, NoEntry as Wanting}
+use Rattle.rules.specs.Tables.{coefficientsOf}
+use Rattle.rules.specs.Grams.{fuelBottom}
+use Rattle.fuel.specs.declared.FuelFigure.{FuelFigure}
+use Rattle.fuel.specs.declared.FuelFigure.the-variants.{Grams, NoEntry, OutOfRange}
+
+-- the sum of kg x ash over batches
+unfoldable pub ashOf : List Batch → ℕ
+ashOf batches = sumOf (λ b. b .kg * b .ash) batches
+
+-- before the division, halves up: "2 x B x (1000 - q) x S x K", "B x coefficient", "kg x (a x ash + 100 x b)"
+unfoldable pub topOf : Coefficients → ℕ → ℕ → ℕ → ℕ
+topOf (Balance q k) kg sulphur ash = 2 * kg * (1000 - q) * sulphur * k
+topOf (Oxides coefficient) kg sulphur ash = kg * coefficient
+topOf (Dust a b) kg sulphur ash = a * ash + 100 * b * kg
+topOf Wanting kg sulphur ash = 0
+
+-- an entry, or none
+unfoldable pub figureOf : Coefficients → ℕ → ℕ → ℕ → FuelFigure
+figureOf (Balance q k) kg sulphur ash = Grams (halvesUp (topOf (Balance q k) kg sulphur ash) (fuelBottom (Balance q k)))
+figureOf (Oxides coefficient) kg sulphur ash = Grams (halvesUp (topOf (Oxides coefficient) kg sulphur ash) (fuelBottom (Oxides coefficient)))
+figureOf (Dust a b) kg sulphur ash = Grams (halvesUp (topOf (Dust a b) kg sulphur ash) (fuelBottom (Dust a b)))
+figureOf Wanting kg sulphur ash = NoEntry
+
+-- "a line's fuel at most 10,000,000,000 kg", "sulphur at most 2,000, ash at most 10,000"
+unfoldable pub fuelFigure : Head → ℕ → ℕ → ℕ → FuelFigure
+fuelFigure h kg sulphur ash =
+    need OutOfRange (leb kg 10_000_000_000)
+    (need OutOfRange (leb sulphur 2_000)
+    (need OutOfRange (leb ash 100_000_000_000_000)
+    (figureOf (coefficientsOf h) kg sulphur ash)))
+
+-- the paper's number for each case: 7 "no table entry", 3 "field .. or fuel sum out of range"
+unfoldable pub numberOf : FuelFigure → ℕ
+numberOf (Grams g) = 0
+numberOf NoEntry = 7
+numberOf OutOfRange = 3

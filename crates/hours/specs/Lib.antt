@@ -1,0 +1,2 @@
+-- Document 01, "the running and missing hours of a day are counted from the two masks": what the code keeps of an hour.
+pub mod States

@@ -1,0 +1,2 @@
+-- Document 01, "Row, work tables, panel": the panel.
+pub mod Panel

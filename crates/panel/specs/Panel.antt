@@ -1,0 +1,61 @@
+-- "The panel keeps a running total as an f64, with its hours and missing hours, and each hour hands the next state back"; 12, 11, 4, 10.
+use Prim.Native.Nat.{ℕ, _+_, _*_, _/_, _%_, _^_}
+use mathlib.Core.Bool.{Bool, true, false, not, _&&_}
+use lib.Dec.{leb, ltb, eqb}
+use lib.IntN.{pos}
+use lib.Ieee.{Float, nan, inf, fin, up, down, binary64, ofInt}
+use Rattle.law.specs.Words.{need}
+use Rattle.reading.specs.declared.Hour.{Hour}
+use Rattle.reading.specs.declared.Figures.{Figures}
+use Rattle.reading.specs.declared.Figures.the-variants.{Both, NoData, NotRunning, Unfit}
+use Rattle.reading.specs.Reading.{figuresOf}
+use Rattle.panel.specs.declared.Panel.{Panel}
+use Rattle.panel.specs.declared.Stepped.{Stepped}
+
+-- the whole number that a total stands for
+unfoldable pub whole : Float → ℕ
+whole nan = 0
+whole (inf negative) = 0
+whole (fin negative m e) = m * up e / down e
+
+-- "total .. a whole number from +0 to 2^53"
+unfoldable pub lawfulTotal : Float → Bool
+lawfulTotal nan = false
+lawfulTotal (inf negative) = false
+lawfulTotal (fin negative m e) = not negative && eqb (m * up e % down e) 0 && leb (m * up e / down e) (2 ^ 53)
+
+-- 12: "total not a whole number from +0 to 2^53, hours over 2,208, missing over hours"
+unfoldable pub lawful : Panel → Bool
+lawful p = lawfulTotal (p .total) && leb (p .hours) 2_208 && leb (p .missing) (p .hours)
+
+-- "with the state unchanged"
+unfoldable pub unchanged : ℕ → Panel → Stepped
+unchanged number p = record { number = number; next = p }
+
+-- "1 to the hours"
+unfoldable pub counted : Panel → Float → ℕ → Stepped
+counted p total missing = record { number = 0; next = record { total = total; hours = p .hours + 1; missing = missing } }
+
+-- "up to 2^53 the f64 total equals the whole number exactly": the f64 of a whole number
+unfoldable pub asTotal : ℕ → Float
+asTotal n = ofInt binary64 (pos n)
+
+-- 10: "panel total would pass 2^53"
+unfoldable pub added : Panel → ℕ → Stepped
+added p product =
+    need (unchanged 10 p) (leb (whole (p .total) + product) (2 ^ 53)) (counted p (asTotal (whole (p .total) + product)) (p .missing))
+
+-- "a measured hour adds c x l to the total and 1 to the hours, a missing hour 1 to both counts, a stopped hour 1 to the hours"; 4
+unfoldable pub afterHour : Panel → Figures → Stepped
+afterHour p (Both c l) = added p (c * l)
+afterHour p NoData = counted p (p .total) (p .missing + 1)
+afterHour p NotRunning = counted p (p .total) (p .missing)
+afterHour p Unfit = unchanged 4 p
+
+-- "panel: 12, 11, 4, 10"
+unfoldable pub panelStep : Panel → Hour → Stepped
+panelStep p hour = need (unchanged 12 p) (lawful p) (need (unchanged 11 p) (ltb (p .hours) 2_208) (afterHour p (figuresOf hour)))
+
+-- a panel before any hour
+unfoldable pub emptyPanel : Panel
+emptyPanel = record { total = asTotal 0; hours = 0; missing = 0 }

@@ -1,0 +1,51 @@
+-- "The program `account` reads a record file on standard input": what it prints, as bytes; 13.
+use Prim.Native.Nat.{ℕ, zero, suc, _+_, _/_, _%_}
+use mathlib.Core.List.{List, [], _∷_, _++_}
+use lib.ListN.{length}
+use lib.Dec.{leb, ltb}
+use Rattle.law.specs.Words.{pick, need}
+use Rattle.rules.specs.declared.Fault.{Fault}
+use Rattle.rules.specs.Judge.{refuse}
+use Rattle.rules.specs.Lines.{Line}
+use Rattle.rules.specs.Row.{rowOf, totalOf}
+use Rattle.rules.specs.Walk.{Outcome, Refused, Accepted, outcome}
+
+-- a number in decimal, before a text; '0' is 48
+unfoldable pub decimalFrom : ℕ → ℕ → List ℕ → List ℕ
+decimalFrom zero n text = text
+decimalFrom (suc places) n text =
+    let more = decimalFrom places (n / 10) ((48 + n % 10) ∷ text) in
+    pick (ltb n 10) ((48 + n % 10) ∷ text) more
+
+-- a u64 in decimal: it has at most 20 digits
+unfoldable pub decimal : ℕ → List ℕ
+decimal n = decimalFrom 20 n []
+
+-- numbers with a space between two, and a line feed
+unfoldable pub spaced : List ℕ → List ℕ
+spaced [] = 10 ∷ []
+spaced (n ∷ []) = decimal n ++ (10 ∷ [])
+spaced (n ∷ m ∷ ns) = decimal n ++ (32 ∷ spaced (m ∷ ns))
+
+-- "it prints one line a row (fields as above)", of lines of which the newest stands first
+unfoldable pub rowLines : List Line → List ℕ
+rowLines [] = []
+rowLines (x ∷ xs) = rowLines xs ++ spaced (rowOf x)
+
+-- "then totals for pollutants 1, 2, 3": "total A B C"
+unfoldable pub totalLine : List Line → List ℕ
+totalLine lines =
+    (116 ∷ 111 ∷ 116 ∷ 97 ∷ 108 ∷ 32 ∷ []) ++ spaced (totalOf 1 lines ∷ totalOf 2 lines ∷ totalOf 3 lines ∷ [])
+
+-- "refused N OFFSET"
+unfoldable pub refusedLine : Fault → List ℕ
+refusedLine f = (114 ∷ 101 ∷ 102 ∷ 117 ∷ 115 ∷ 101 ∷ 100 ∷ 32 ∷ []) ++ spaced (f .number ∷ f .place ∷ [])
+
+-- "a refused input prints only .."; an accepted one its rows and totals
+unfoldable pub printedFrom : Outcome → List ℕ
+printedFrom (Refused f) = refusedLine f
+printedFrom (Accepted lines) = rowLines lines ++ totalLine lines
+
+-- 13, "program only: input over 65,536 bytes" ("offset 0 for 13"), comes before the file is looked at
+unfoldable pub printed : List ℕ → List ℕ
+printed input = need (refusedLine (refuse 13 0)) (leb (length input) 65_536) (printedFrom (outcome input))

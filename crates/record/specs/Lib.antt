@@ -1,0 +1,2 @@
+-- Document 01, "The record file": what the code keeps of a record.
+pub mod Flat

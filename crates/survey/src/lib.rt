@@ -1,0 +1,1 @@
+// The governing survey: a part of one of two lent byte slices.
