@@ -1,0 +1,79 @@
+-- "Figures to agree on .. gathered as a single proved table with a single statement": the seven readings, both quarter cases, balance, oxides, dust.
+use Prim.Native.Nat.{ℕ}
+use mathlib.Core.List.{List, [], _∷_, map}
+use mathlib.Core.Path.{_≡_, refl}
+use lib.Ieee.{ofBits}
+use Rattle.law.specs.Words.{need, pick, sumOf, tally, largest, halvesUp}
+use Rattle.reading.specs.declared.Rounded.{Rounded}
+use Rattle.reading.specs.declared.Rounded.the-variants.{Value, Refused}
+use Rattle.reading.specs.Reading.{reading, allowed, exact, rounded, capped, roundedOf, concentrationOf, flowOf}
+use Rattle.rules.specs.declared.Head.{Head}
+use Rattle.rules.specs.declared.Batch.{Batch}
+use Rattle.rules.specs.Hours.{bit, runningOf, missingOf}
+use Rattle.rules.specs.Lines.{fuel}
+use Rattle.rules.specs.Method.{isAutomatic}
+use Rattle.rules.specs.Tables.{at, q, k, class, tableA1, noClass, classOf, isPulverised, isGrate, grateDust, dustEntry, oxidesEntry, balanceOf, oxidesOf, dustOf, coefficientsOf}
+use Rattle.rules.specs.Grams.{sulphurOf, fuelTop, fuelBottom, fuelGrams}
+
+-- a figure: a number, or that it is refused
+pub data Figure : Type 0 where
+  Gives : ℕ → Figure
+  Refuses : Figure
+
+-- a row of the table: what the rules compute, and what the document says
+pub record Row : Type 0 where
+  pub computed : Figure
+  pub agreed : Figure
+
+-- the figure of a rounded reading
+unfoldable pub figure : Rounded → Figure
+figure (Value n) = Gives n
+figure Refused = Refuses
+
+-- a concentration, by its bit pattern
+unfoldable pub concentrationRow : ℕ → Figure → Row
+concentrationRow bits f = record { computed = figure (concentrationOf (reading bits)); agreed = f }
+
+-- a flow, by its bit pattern
+unfoldable pub flowRow : ℕ → Figure → Row
+flowRow bits f = record { computed = figure (flowOf (reading bits)); agreed = f }
+
+-- 1 where a day with these two masks is automatic, and 0 where it is not
+unfoldable pub quarterRow : ℕ → ℕ → ℕ → Row
+quarterRow run measured f =
+    record { computed = Gives (pick (isAutomatic (runningOf run) (missingOf run measured)) 1 0); agreed = Gives f }
+
+-- a pulverised boiler with furnace 1, coal 4 and mark 1
+unfoldable pub boiler : ℕ → ℕ → Head
+boiler pollutant mw = record { stack = 1; pollutant = pollutant; required = 1; furnace = 1; coal = 4; mw = mw; mark = 1; days = 1 }
+
+-- 1,000,000 kg
+unfoldable pub batch : ℕ → ℕ → Batch
+batch sulphur ash = record { kg = 1_000_000; sulphur = sulphur; ash = ash }
+
+-- grams by fuel
+unfoldable pub fuelRow : Head → List Batch → ℕ → Row
+fuelRow head batches f = record { computed = Gives (fuelGrams (coefficientsOf head) batches); agreed = Gives f }
+
+-- the single table
+unfoldable pub figures : List Row
+figures =
+    concentrationRow 0x3e000000 (Gives 13)  -- 0.125
+    ∷ concentrationRow 0x461c4005 (Gives 1_000_000)  -- 10000 + 5/1024
+    ∷ concentrationRow 0x461c4006 Refuses  -- 10000 + 6/1024
+    ∷ flowRow 0x3f000000 (Gives 1)  -- 0.5
+    ∷ flowRow 0x4a989680 (Gives 5_000_000)  -- 5,000,000
+    ∷ flowRow 0x4a989681 Refuses  -- 5,000,000.5
+    ∷ concentrationRow 0x80000000 (Gives 0)  -- minus zero
+    ∷ quarterRow 0b1111 0b1011 1  -- four running hours with one missing stay automatic
+    ∷ quarterRow 0b111 0b011 0  -- three with one missing don't
+    ∷ fuelRow (boiler 1 300) (batch 80 0 ∷ []) 14_184_000
+    ∷ fuelRow (boiler 1 300) (batch 100 0 ∷ batch 80 0 ∷ []) 35_460_000
+    ∷ fuelRow (boiler 2 450) (batch 0 0 ∷ []) 7_950_000
+    ∷ fuelRow (boiler 3 300) (batch 0 2_000 ∷ []) 195_330_000
+    ∷ []
+
+-- the single statement
+pub figures-agree : map (λ r. r .computed) figures ≡ map (λ r. r .agreed) figures
+unfolding figure concentrationRow flowRow quarterRow boiler batch fuelRow figures need pick sumOf tally largest halvesUp reading ofBits allowed exact rounded capped roundedOf bit runningOf missingOf fuel isAutomatic at q k class tableA1 noClass classOf isPulverised isGrate grateDust dustEntry oxidesEntry balanceOf oxidesOf dustOf coefficientsOf sulphurOf fuelTop fuelBottom fuelGrams
+figures-agree = refl

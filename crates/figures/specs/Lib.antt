@@ -1,0 +1,3 @@
+-- Document 01, "Figures to agree on".
+pub mod Figures
+pub mod Example
