@@ -4,7 +4,7 @@ use mathlib.Core.List.{List, [], _∷_, _++_, append-assoc, append-nil}
 use Prim.Native.Nat.{ℕ, zero, suc, _+_, _-_, _<_, _≤_}
 use native.Mathlib.Numerals.{add-one}
 use native.Mathlib.Omega.{arith}
-use lib.ListN.{length, getD, take, drop, set, length-append, length-drop, drop-of-length-le}
+use lib.ListN.{length, getD, take, drop, set, length-set, length-append, length-drop, drop-of-length-le}
 use lib.Seq.{take-suc-set, set-at, drop-cons, take-at, drop-at, take-all, drop-drop}
 use Rattle.law.specs.Words.{table, over}
 
@@ -67,3 +67,35 @@ module _ (f : ℕ → ℕ) where
 pub gather-more : (out r r' : List ℕ) (b v : ℕ) → b < length out → r ≡ v ∷ r' → take (b + 1) (set out b v) ++ r' ≡ take b out ++ r
 gather-more out r r' b v l e =
     ap (λ (k : ℕ). take k (set out b v) ++ r') (add-one b) ∙ ap (λ (t : List ℕ). t ++ r') (take-suc-set out b v l) ∙ append-assoc (take b out) (v ∷ []) r' ∙ ap (λ (t : List ℕ). take b out ++ t) (sym e)
+
+-- a turn of a loop that writes f from the front: what is written so far, and its length
+pub record Writing (f : ℕ → ℕ) (d l : List ℕ) (i : ℕ) : Type 0 where
+  pub within : i ≤ length d
+  pub long : length l ≡ length d
+  pub so-far : l ≡ over f i d
+
+pub writing-start : (f : ℕ → ℕ) (d : List ℕ) → Writing f d d 0
+writing-start f d = record { within = omega arith; long = refl; so-far = over-none f d }
+
+pub writing-more : (f : ℕ → ℕ) (d l : List ℕ) (i v : ℕ) → Writing f d l i → i < length d → v ≡ f i → Writing f d (set l i v) (i + 1)
+writing-more f d l i v w h e =
+    record {
+      within = omega arith;
+      long = simp length-set (w .long);
+      so-far = ap₂ (λ (t : List ℕ) (x : ℕ). set t i x) (w .so-far) e ∙ over-more f i d h;
+    }
+
+pub writing-done : (f : ℕ → ℕ) (d l : List ℕ) (i n : ℕ) → Writing f d l i → i ≡ n → l ≡ over f n d
+writing-done f d l i n w e = w .so-far ∙ ap (λ (k : ℕ). over f k d) e
+
+-- all of it written
+pub over-all : (f : ℕ → ℕ) (n : ℕ) (d : List ℕ) → length d ≤ n → over f n d ≡ table f n
+over-all f n d h = ap (λ (t : List ℕ). table f n ++ t) (drop-of-length-le d h) ∙ append-nil (table f n)
+
+-- a part that is lent from `from` to the end and comes back written
+pub part-back : (g : ℕ → ℕ) (xs ys : List ℕ) (from c : ℕ) → ys ≡ over g c (take (length xs - from) (drop from xs))
+    → take from xs ++ (ys ++ drop (length xs - from) (drop from xs)) ≡ take from xs ++ over g c (drop from xs)
+part-back g xs ys from c e =
+    let long : length (drop from xs) ≤ length xs - from = omega (arith, length-drop from xs) in
+    ap₂ (λ (t u : List ℕ). take from xs ++ (t ++ u)) (e ∙ ap (over g c) (take-all (length xs - from) (drop from xs) long)) (drop-of-length-le (drop from xs) long)
+    ∙ ap (λ (t : List ℕ). take from xs ++ t) (append-nil (over g c (drop from xs)))
