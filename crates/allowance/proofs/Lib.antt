@@ -1,0 +1,10 @@
+-- The allowance of every line, proved once over the units, the divisor of a gram and the fill rule.
+pub mod Alike
+pub mod Sums
+pub mod Account
+pub mod Fills
+pub mod Method
+pub mod Near
+pub mod Bounds
+pub mod Order
+pub mod Cases
