@@ -20,7 +20,7 @@ use Rattle.rules.specs.Fill.{zeroes, cs, ls, window, short, long, fill, fillBot
 use Rattle.rules.specs.Tables.{at, class, tableA1, classOf, isPulverised, oxidesEntry, oxidesOf, coefficientsOf}
 use Rattle.rules.specs.Grams.{valuesOf, slots, hourly, amount, perGram, automatic, surveyValues, manual, fuelTop, fuelBottom, fuelGrams, grams}
 use Rattle.rules.specs.Judge.{refuse, fine, first, key, placeHead, rangeHead, placeDay, straysOf, rangeMasks, accepted, judgePair, judgeBlank, judgeHour, judgeHours, judgeDay, surveysLeft, placeEnforcement, judgeStopped, judgeSurvey, placeBatch, rangeBatch, judgeEntry, placeEnd, judgeFuel, judge}
-use Rattle.rules.specs.Walk.{Between, Accepted, floorOf, surveysOf,, viewOf, runsOf, begun, withDay, withEnforcement, withBatch, takenBetween, takenInside, taken, ended, faultOf, walk}
+use Rattle.rules.specs.Walk.{Between, Accepted, floorOf, surveysOf, viewOf, runsOf, begun, withDay, withEnforcement, withBatch, takenBetween, takenInside, taken, ended, faultOf, walk}
 use Rattle.allowance.specs.Exact.{exactOf, twice, twiceMean, twiceBoth, exactFill, exactHourly, exactAutomatic, exactSurvey, exactManual}
 use Rattle.allowance.specs.Allowance.{ofMeasured, ofFilled, ofFill, automaticAllowance, manualAllowance, AutomaticNear, ManualNear, FuelNear}
 
