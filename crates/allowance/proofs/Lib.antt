@@ -3,7 +3,6 @@ pub mod Alike
 pub mod Sums
 pub mod Account
 pub mod Fills
-pub mod Method
 pub mod Near
 pub mod Bounds
 pub mod Order

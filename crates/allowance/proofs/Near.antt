@@ -26,7 +26,7 @@ use Rattle.allowance.specs.Allowance.{ofFill, automaticAllowance, manual
 use Rattle.allowance.proofs.Alike.{slots-alike, slots-self}
 use Rattle.allowance.proofs.Account.{Halves, automatic-off, manual-off}
 use Rattle.allowance.proofs.Fills.{fills-off}
-use Rattle.allowance.proofs.Method.{grams-automatic, grams-manual, grams-fuel, manual-surveyed}
+use Rattle.rules.proofs.Method.{grams-automatic, grams-manual, grams-fuel, manual-surveyed}
 
 -- ---- the readings, in units of 2^-149
 halves-of : (p : Pair) → Halves (2 ^ 149) (valuesOf p) (exactOf p)
