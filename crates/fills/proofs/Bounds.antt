@@ -1,0 +1,153 @@
+-- A fill passes no limit that the valid values keep, so no entry does, and a sum of products is at most so many times the product of the limits. That a
+-- list keeps a limit M is said as `largest s ≤ M`. Assumes nothing.
+use mathlib.Core.Path.{_≡_, refl, _∙_, sym, ap, subst}
+use mathlib.Core.List.{List, [], _∷_, _++_, reverse, reverse-cons}
+use Prim.Native.Nat.{ℕ, zero, suc, _+_, _*_, _<_, _≤_, max}
+use native.Mathlib.Nat.{le-trans, mul-le-mul, suc-mul}
+use native.Mathlib.Omega.{arith}
+use lib.ListN.{length, getD, take, drop, take-append-drop, length-map}
+use lib.Dec.{eqb, leb}
+use Rattle.law.specs.Words.{largest, sumOf}
+use Rattle.law.proofs.Tests.{pick-case}
+use Rattle.law.proofs.Halves.{mean-is}
+use Rattle.rules.specs.Slots.{Slot, valid, missing, stopped, valids, entry, entries}
+use Rattle.rules.specs.Fill.{Values, zeroes, cs, ls, window, short, long, fill, meanUp, same, filled}
+use Rattle.rules.specs.Grams.{amount}
+use Rattle.fills.specs.Gaps.{hoursIn, slotsIn, fillAt, cellAt, filledCells}
+use Rattle.fills.specs.Weights.{products}
+use Rattle.fills.proofs.Largest.{largest-append}
+use Rattle.fills.proofs.Entries.{entries-length, valids-map}
+use Rattle.fills.proofs.States.{slots-length, slot-holds, at-slot}
+use Rattle.fills.proofs.Alone.{cs-alone, ls-alone}
+use Rattle.fills.proofs.Filled.{filled-at}
+use Rattle.fills.proofs.Products.{products-amounts}
+
+-- ---- a list keeps a limit where each of it does, and the other way
+pub each-largest : (s : List ℕ) (k : ℕ) → getD s k 0 ≤ largest s
+unfolding largest
+each-largest [] k = omega arith
+each-largest (v ∷ s) zero = omega arith
+each-largest (v ∷ s) (suc k) = omega (arith, each-largest s k)
+
+pub largest-each : (M : ℕ) (s : List ℕ) → ((k : ℕ) → k < length s → getD s k 0 ≤ M) → largest s ≤ M
+unfolding largest
+largest-each M [] p = omega arith
+largest-each M (v ∷ s) p =
+    let first = p 0 (omega arith) in
+    omega (arith, largest-each M s (λ k l. p (suc k) (omega arith)))
+
+largest-take : (n : ℕ) (s : List ℕ) → largest (take n s) ≤ largest s
+unfolding largest
+largest-take zero s = omega arith
+largest-take (suc n) [] = omega arith
+largest-take (suc n) (v ∷ s) = omega (arith, largest-take n s)
+
+-- ---- the valid values of a part of the hours
+valids-append : {A : Type 0} (s t : List (Slot A)) → valids (s ++ t) ≡ valids s ++ valids t
+unfolding valids
+valids-append [] t = refl
+valids-append {A} (valid v ∷ s) t = ap (λ (u : List A). v ∷ u) (valids-append s t)
+valids-append (missing ∷ s) t = valids-append s t
+valids-append (stopped ∷ s) t = valids-append s t
+
+most-append : (s t : List (Slot ℕ)) → largest (valids (s ++ t)) ≡ max (largest (valids s)) (largest (valids t))
+most-append s t = ap largest (valids-append s t) ∙ largest-append (valids s) (valids t)
+
+most-reverse : (s : List (Slot ℕ)) → largest (valids (reverse s)) ≡ largest (valids s)
+most-reverse [] = refl
+most-reverse (x ∷ s) =
+    ap (λ (t : List (Slot ℕ)). largest (valids t)) (reverse-cons x s)
+    ∙ most-append (reverse s) (x ∷ [])
+    ∙ omega (arith, most-reverse s, most-append (x ∷ []) s)
+
+module _ (M : ℕ) where
+  pub valids-each : (slots : List (Slot ℕ)) → ((h v : ℕ) → h < length slots → getD slots h stopped ≡ valid v → v ≤ M) → largest (valids slots) ≤ M
+  unfolding valids largest
+  valids-each [] p = omega arith
+  valids-each (valid v ∷ s) p =
+      let first = p 0 v (omega arith) refl in
+      omega (arith, valids-each s (λ h w l e. p (suc h) w (omega arith) e))
+  valids-each (missing ∷ s) p = valids-each s (λ h w l e. p (suc h) w (omega arith) e)
+  valids-each (stopped ∷ s) p = valids-each s (λ h w l e. p (suc h) w (omega arith) e)
+
+  -- ---- a fill
+  window-most : (n : ℕ) (before after : List ℕ) → largest before ≤ M → largest after ≤ M → largest (window n before after) ≤ M
+  unfolding window
+  window-most n [] after b a = le-trans (largest-take n after) a
+  window-most n (x ∷ before) after b a = le-trans (largest-take n (x ∷ before)) b
+
+  short-most : (before after : List ℕ) → largest before ≤ M → largest after ≤ M → short meanUp same before after ≤ M
+  unfolding short largest same meanUp
+  short-most [] [] b a = omega arith
+  short-most [] (y ∷ after) b a = omega arith
+  short-most (x ∷ before) [] b a = omega arith
+  short-most (x ∷ before) (y ∷ after) b a = omega (arith, mean-is x y)
+
+  long-most : (before after : List ℕ) → largest before ≤ M → largest after ≤ M → long meanUp same before after ≤ M
+  unfolding long same
+  long-most before after b a = window-most 720 before after b a
+
+  pub fill-most : (gap : ℕ) (before after : List ℕ) → largest before ≤ M → largest after ≤ M → fill meanUp same gap before after ≤ M
+  unfolding fill
+  fill-most gap before after b a =
+      pick-case (λ (v : ℕ). v ≤ M) (leb gap 24) _ _ (λ t. short-most before after b a) (λ t. long-most before after b a)
+
+  pub fillAt-most : (slots : List (Slot ℕ)) (h : ℕ) → largest (valids slots) ≤ M → fillAt slots h ≤ M
+  unfolding fillAt entry
+  fillAt-most slots h p =
+      let split : (k : ℕ) → largest (valids slots) ≡ max (largest (valids (take k slots))) (largest (valids (drop k slots))) = λ k. ap (λ (t : List (Slot ℕ)). largest (valids t)) (sym (take-append-drop k slots)) ∙ most-append (take k slots) (drop k slots) in
+      fill-most _ _ _ (omega (arith, most-reverse (take h slots), split h)) (omega (arith, split (h + 1)))
+
+  -- ---- every entry
+  entry-most : (before : List (Slot ℕ)) (s : Slot ℕ) (after : List (Slot ℕ)) → largest (valids before) ≤ M → largest (valids (s ∷ after)) ≤ M
+      → entry (λ v. v) (fill meanUp same) 0 before s after ≤ M
+  unfolding entry valids largest
+  entry-most before (valid v) after b a = omega arith
+  entry-most before missing after b a = fill-most _ _ _ b a
+  entry-most before stopped after b a = omega arith
+
+  pub entries-most : (before slots : List (Slot ℕ)) → largest (valids before) ≤ M → largest (valids slots) ≤ M
+      → largest (entries (λ v. v) (fill meanUp same) 0 before slots) ≤ M
+  unfolding entries largest
+  entries-most before [] b a = omega arith
+  entries-most before (s ∷ after) b a =
+      let here = most-append (s ∷ []) before in
+      let there = most-append (s ∷ []) after in
+      omega (arith, entry-most before s after b a, entries-most (s ∷ before) after (omega arith) (omega arith))
+
+  pub line-most : (slots : List (Slot ℕ)) → largest (valids slots) ≤ M → largest (entries (λ v. v) (fill meanUp same) 0 [] slots) ≤ M
+  unfolding valids largest
+  line-most slots a = entries-most [] slots (omega arith) a
+
+  -- ---- every cell, where every cell kept the limit
+  pub filled-most : (states values : List ℕ) → ((k : ℕ) → k < hoursIn states values → getD values k 0 ≤ M)
+      → (k : ℕ) → k < hoursIn states values → getD (filledCells states values) k 0 ≤ M
+  unfolding cellAt slotsIn
+  filled-most states values p k l =
+      let valid-most : largest (valids (slotsIn states values)) ≤ M =
+      valids-each (slotsIn states values) (λ h v m e. let i : h < hoursIn states values = omega (arith, slots-length states values) in subst (λ (x : ℕ). x ≤ M) (sym (slot-holds states values h v (sym (at-slot states values (hoursIn states values) h i) ∙ e))) (p h i)) in
+      subst (λ (x : ℕ). x ≤ M) (sym (filled-at states values k l))
+      (pick-case (λ (v : ℕ). v ≤ M) (eqb (getD states k 0) 1) _ _ (λ t. fillAt-most (slotsIn states values) k valid-most) (λ t. p k l))
+
+-- ---- sums of products, over the limits of both quantities
+module _ (M N : ℕ) where
+  pub products-most : (xs ys : List ℕ) → largest xs ≤ M → largest ys ≤ N → products xs ys ≤ length xs * (M * N)
+  unfolding products largest
+  products-most [] ys x y = omega arith
+  products-most (v ∷ xs) [] x y = omega arith
+  products-most (v ∷ xs) (w ∷ ys) x y =
+      let one : v * w ≤ M * N = mul-le-mul (omega arith) (omega arith) in
+      let more = products-most xs ys (omega arith) (omega arith) in
+      omega (arith, suc-mul (length xs) (M * N))
+
+  -- the amounts of a line whose valid hours keep both limits
+  pub amounts-most : (slots : List (Slot Values)) → largest (cs (valids slots)) ≤ M → largest (ls (valids slots)) ≤ N
+      → sumOf amount (entries (λ v. v) filled zeroes [] slots) ≤ length slots * (M * N)
+  unfolding cs ls
+  amounts-most slots x y =
+      let hours = entries (λ v. v) filled zeroes [] slots in
+      let size : length (cs hours) ≡ length slots = length-map hours (λ (v : Values). v .c) ∙ entries-length (λ v. v) filled zeroes [] slots in
+      let c : largest (cs hours) ≤ M = subst (λ (t : List ℕ). largest t ≤ M) (sym (cs-alone slots)) (line-most M _ (subst (λ (t : List ℕ). largest t ≤ M) (sym (valids-map (λ (v : Values). v .c) slots)) x)) in
+      let l : largest (ls hours) ≤ N = subst (λ (t : List ℕ). largest t ≤ N) (sym (ls-alone slots)) (line-most N _ (subst (λ (t : List ℕ). largest t ≤ N) (sym (valids-map (λ (v : Values). v .l) slots)) y)) in
+      subst (λ (n : ℕ). n ≤ length slots * (M * N)) (sym (products-amounts hours))
+      (subst (λ (n : ℕ). products (cs hours) (ls hours) ≤ n * (M * N)) size (products-most (cs hours) (ls hours) c l))

@@ -1,0 +1,11 @@
+-- Laws about fills and weights, each proved once; proofs of functions cite them, and so do the layers above.
+pub mod Largest
+pub mod Neighbours
+pub mod States
+pub mod Walk
+pub mod Products
+pub mod Entries
+pub mod Alone
+pub mod Filled
+pub mod Bounds
+pub mod Only
