@@ -1,0 +1,321 @@
+-- Laws of judging: what refuses a record as the code holds it refuses the record, and what a record that is not refused has. Assumes nothing.
+use Prim.Native.Nat.{ℕ, _+_, _*_, _^_, _<_, _≤_}
+use mathlib.Core.Bool.{Bool, true, false, not}
+use mathlib.Core.List.{List}
+use mathlib.Core.Path.{_≡_, refl, sym, ap, subst, _∙_}
+use native.Mathlib.Omega.{arith}
+use lib.Dec.{leb, ltb, eqb}
+use borrow.Author.Tests.{leb-true, ltb-true, eqb-true}
+use Rattle.law.proofs.Tests.{need-eq, need-not-eq, pick-not-le}
+use Rattle.rules.specs.declared.Head.{Head}
+use Rattle.rules.specs.declared.Survey.{Survey}
+use Rattle.rules.specs.declared.Batch.{Batch}
+use Rattle.rules.specs.declared.Fault.{Fault}
+use Rattle.rules.specs.declared.View.{View}
+use Rattle.rules.specs.declared.Coefficients.{Coefficients}
+use Rattle.rules.specs.declared.Coefficients.the-variants.{Balance, Oxides, Dust, NoEntry}
+use Rattle.rules.specs.Records.{Day, Bad as NoRecord, IsHead, IsDay, IsEnforcement, IsPlant, IsBatch, IsEnd, dayOf, recordIn}
+use Rattle.rules.specs.Records as rules
+use Rattle.rules.specs.Hours.{runsAt}
+use Rattle.rules.specs.Method.{methodOf}
+use Rattle.rules.specs.Tables.{coefficientsOf}
+use Rattle.rules.specs.Judge.{refuse, fine, first, key, placeHead, rangeHead, placeDay, straysOf, rangeMasks, judgePair, judgeHours, judgeDay, surveysLeft, placeEnforcement, placePlant, judgeStopped, judgeSurvey, placeBatch, rangeBatch, judgeEntry, placeEnd, judgeFuel, judge}
+use Rattle.record.specs.declared.DayMasks.{DayMasks}
+use Rattle.record.specs.declared.Record.{Record}
+use Rattle.record.specs.declared.Record.the-variants.{Bad, OfHead, OfDay, OfEnforcement, OfPlant, OfBatch, OfEnd}
+use Rattle.record.specs.Flat.{masksOf, flat}
+use Rattle.record.proofs.Faults.{Stands, stands, first-first, first-refused, passed, both-passed}
+use Rattle.record.proofs.Day.{pair-stands}
+use Rattle.record.proofs.Laws.{PairAccepted, pair-accepted, day-in}
+use Rattle.judge.specs.Flat.{judgeFlat}
+
+-- ---- a record as the code holds it
+-- no day
+unfoldable pub NoDay : Record → Type 0
+NoDay Bad = Unit
+NoDay (OfHead h) = Unit
+NoDay (OfDay d) = ⊥
+NoDay (OfEnforcement s) = Unit
+NoDay (OfPlant s) = Unit
+NoDay (OfBatch b) = Unit
+NoDay OfEnd = Unit
+
+first-stops : (f g : Fault) → (f .number ≡ 0 → ⊥) → f ≡ first f g
+unfolding first
+first-stops f g n = need-not-eq f g (f .number) 0 n
+
+first-goes : (f g : Fault) → f .number ≡ 0 → g ≡ first f g
+unfolding first
+first-goes f g z = need-eq f g g (f .number) 0 z refl
+
+entry-stands : (place : ℕ) (entry : Coefficients) → Stands (judgeEntry place entry)
+unfolding judgeEntry
+entry-stands place (Balance q k) = search stands
+entry-stands place (Oxides c) = search stands
+entry-stands place (Dust a b) = search stands
+entry-stands place NoEntry = sym (first-refused 7 place fine refl)
+
+module _ (place : ℕ) (v : View) (runs : List ℕ) where
+  -- what judging a record as the code holds it says refuses, or is fine
+  pub flat-stands : (r : Record) → Stands (judgeFlat place v runs r)
+  unfolding judgeFlat rangeHead rangeMasks judgeSurvey judgeStopped rangeBatch judgeFuel
+  flat-stands Bad = sym (first-refused 1 place fine refl)
+  flat-stands (OfHead h) = search stands depth 20
+  flat-stands (OfDay d) = search stands depth 20
+  flat-stands (OfEnforcement s) = search stands depth 20
+  flat-stands (OfPlant s) = search stands depth 20
+  flat-stands (OfBatch b) = search stands depth 20
+  flat-stands OfEnd = search (stands, entry-stands) depth 20
+
+  -- ---- a record that is no day, and a day
+  pub judge-flat : (r : rules.Record) → NoDay (flat r) → judge place v runs r ≡ judgeFlat place v runs (flat r)
+  unfolding judge judgeFlat flat NoDay
+  judge-flat NoRecord n = refl
+  judge-flat (IsHead h) n = refl
+  judge-flat (IsDay d) n = absurd n
+  judge-flat (IsEnforcement s) n = refl
+  judge-flat (IsPlant s) n = refl
+  judge-flat (IsBatch b) n = refl
+  judge-flat IsEnd n = refl
+
+  pub judge-day : (d : Day) → judge place v runs (IsDay d) ≡ first (judgeFlat place v runs (OfDay (masksOf d))) (judgeHours place d)
+  unfolding judge judgeFlat judgeDay masksOf
+  judge-day d = sym (first-first (placeDay place v (d .number)) (rangeMasks place (d .run) (d .measured)) (judgeHours place d))
+
+  -- what refuses the record as the code holds it refuses the record
+  refused-flat : (x : rules.Record) (f : Fault) → f ≡ judgeFlat place v runs (flat x) → (f .number ≡ 0 → ⊥) → f ≡ judge place v runs x
+  unfolding flat NoDay
+  refused-flat NoRecord f e n = e ∙ sym (judge-flat NoRecord tt)
+  refused-flat (IsHead h) f e n = e ∙ sym (judge-flat (IsHead h) tt)
+  refused-flat (IsDay d) f e n = first-stops f _ n ∙ ap (λ (x : Fault). first x (judgeHours place d)) e ∙ sym (judge-day d)
+  refused-flat (IsEnforcement s) f e n = e ∙ sym (judge-flat (IsEnforcement s) tt)
+  refused-flat (IsPlant s) f e n = e ∙ sym (judge-flat (IsPlant s) tt)
+  refused-flat (IsBatch b) f e n = e ∙ sym (judge-flat (IsBatch b) tt)
+  refused-flat IsEnd f e n = e ∙ sym (judge-flat IsEnd tt)
+
+  pub judge-refused : (x : rules.Record) (r : Record) (f : Fault) → r ≡ flat x → f ≡ judgeFlat place v runs r → (f .number ≡ 0 → ⊥) → f ≡ judge place v runs x
+  judge-refused x r f p e n = refused-flat x f (e ∙ ap (judgeFlat place v runs) p) n
+
+  -- and one that passes is judged by a day's readings, and by nothing else
+  pub judge-passed : (bytes : List ℕ) (m : DayMasks) (r : Record) (f g : Fault) → r ≡ flat (recordIn bytes) → r ≡ OfDay m → f ≡ judgeFlat place v runs r → f .number ≡ 0
+      → g ≡ judgeHours place (dayOf bytes) → g ≡ judge place v runs (recordIn bytes)
+  unfolding flat
+  judge-passed bytes m r f g p q e z h =
+      let d = dayOf bytes in
+      let day : recordIn bytes ≡ IsDay d = day-in bytes m (sym p ∙ q) in
+      let same : f ≡ judgeFlat place v runs (OfDay (masksOf d)) = e ∙ ap (judgeFlat place v runs) (p ∙ ap flat day) in
+      h ∙ first-goes f (judgeHours place d) z ∙ ap (λ (x : Fault). first x (judgeHours place d)) same ∙ sym (judge-day d) ∙ ap (judge place v runs) (sym day)
+
+  pub judge-other : (x : rules.Record) (r : Record) (f : Fault) → r ≡ flat x → NoDay r → f ≡ judgeFlat place v runs r → f ≡ judge place v runs x
+  judge-other x r f p n e = e ∙ ap (judgeFlat place v runs) p ∙ sym (judge-flat x (subst NoDay p n))
+
+  -- a day that is not refused: its number and masks, and its readings
+  pub day-passed : (d : Day) → judge place v runs (IsDay d) ≡ fine → (judgeFlat place v runs (OfDay (masksOf d)) ≡ fine) × (judgeHours place d ≡ fine)
+  day-passed d e = both-passed (judgeFlat place v runs (OfDay (masksOf d))) (judgeHours place d) (flat-stands (OfDay (masksOf d))) (sym (judge-day d) ∙ e)
+
+  -- what is not refused is not refused as the code holds it
+  pub flat-passed : (x : rules.Record) → judge place v runs x ≡ fine → judgeFlat place v runs (flat x) ≡ fine
+  unfolding flat NoDay
+  flat-passed NoRecord e = sym (judge-flat NoRecord tt) ∙ e
+  flat-passed (IsHead h) e = sym (judge-flat (IsHead h) tt) ∙ e
+  flat-passed (IsDay d) e = day-passed d e .0
+  flat-passed (IsEnforcement s) e = sym (judge-flat (IsEnforcement s) tt) ∙ e
+  flat-passed (IsPlant s) e = sym (judge-flat (IsPlant s) tt) ∙ e
+  flat-passed (IsBatch b) e = sym (judge-flat (IsBatch b) tt) ∙ e
+  flat-passed IsEnd e = sym (judge-flat IsEnd tt) ∙ e
+
+-- ---- what a record that is not refused has
+pub record HeadOk (v : View) (h : Head) : Type 0 where
+  pub outside : v .inside ≡ false
+  pub rises : v .floor ≤ key h
+  pub room : v .lines < 48
+  pub pollutant-least : 1 ≤ h .pollutant
+  pub pollutant-most : h .pollutant ≤ 3
+  pub required-most : h .required ≤ 1
+  pub furnace-least : 1 ≤ h .furnace
+  pub furnace-most : h .furnace ≤ 4
+  pub coal-least : 1 ≤ h .coal
+  pub coal-most : h .coal ≤ 7
+  pub mw-least : 9 ≤ h .mw
+  pub mark-least : 1 ≤ h .mark
+  pub mark-most : h .mark ≤ 4
+  pub days-least : 1 ≤ h .days
+  pub days-most : h .days ≤ 92
+
+pub record DayOk (v : View) (d : DayMasks) : Type 0 where
+  pub inside : v .inside ≡ true
+  pub room : v .days < v .head .days
+  pub turn : d .number ≡ v .days
+  pub run-bits : d .run < 2 ^ 24
+  pub measured-bits : d .measured < 2 ^ 24
+  pub no-strays : straysOf (d .run) (d .measured) ≡ 0
+
+pub record SurveyOk (v : View) (runs : List ℕ) (floor : ℕ) (s : Survey) : Type 0 where
+  pub inside : v .inside ≡ true
+  pub days-done : v .days ≡ v .head .days
+  pub before-fuel : v .batches ≡ 0
+  pub rises : floor ≤ s .hour
+  pub room : v .enforcement .count + v .plant .count < 120
+  pub in-period : s .hour < 24 * v .head .days
+  pub pair : PairAccepted (s .pair)
+  pub running : runsAt runs (s .hour) ≡ true
+
+pub record BatchOk (v : View) (b : Batch) : Type 0 where
+  pub inside : v .inside ≡ true
+  pub days-done : v .days ≡ v .head .days
+  pub room : v .batches < 92
+  pub kg-least : 1 ≤ b .kg
+  pub sulphur-most : b .sulphur ≤ 2_000
+  pub ash-most : b .ash ≤ 10_000
+  pub fuel-most : v .fuel + b .kg ≤ 10_000_000_000
+
+pub record EndOk (v : View) : Type 0 where
+  pub inside : v .inside ≡ true
+  pub days-done : v .days ≡ v .head .days
+  pub by-fuel : 2 < methodOf (v .head) (v .enforcement .count + v .plant .count) (v .running) (v .missing) → (0 < v .batches) × (coefficientsOf (v .head) ≡ NoEntry → ⊥)
+
+turned-true : (t : Bool) → not t ≡ true → t ≡ false
+turned-true true e = cc
+turned-true false e = refl
+
+module _ (place : ℕ) (v : View) where
+  pub head-ok : (runs : List ℕ) (h : Head) → judgeFlat place v runs (OfHead h) ≡ fine → HeadOk v h
+  unfolding judgeFlat placeHead rangeHead
+  head-ok runs h e =
+      let both = both-passed (placeHead place v h) (rangeHead place h) (search stands depth 20) e in
+      let a1 = passed 2 place (not (v .inside)) _ refl (both .0) in
+      let a2 = passed 2 place (leb (v .floor) (key h)) _ refl (a1 .1) in
+      let a3 = passed 2 place (ltb (v .lines) 48) _ refl (a2 .1) in
+      let b1 = passed 3 place (leb 1 (h .pollutant)) _ refl (both .1) in
+      let b2 = passed 3 place (leb (h .pollutant) 3) _ refl (b1 .1) in
+      let b3 = passed 3 place (leb (h .required) 1) _ refl (b2 .1) in
+      let b4 = passed 3 place (leb 1 (h .furnace)) _ refl (b3 .1) in
+      let b5 = passed 3 place (leb (h .furnace) 4) _ refl (b4 .1) in
+      let b6 = passed 3 place (leb 1 (h .coal)) _ refl (b5 .1) in
+      let b7 = passed 3 place (leb (h .coal) 7) _ refl (b6 .1) in
+      let b8 = passed 3 place (leb 9 (h .mw)) _ refl (b7 .1) in
+      let b9 = passed 3 place (leb 1 (h .mark)) _ refl (b8 .1) in
+      let b10 = passed 3 place (leb (h .mark) 4) _ refl (b9 .1) in
+      let b11 = passed 3 place (leb 1 (h .days)) _ refl (b10 .1) in
+      let b12 = passed 3 place (leb (h .days) 92) _ refl (b11 .1) in
+      record {
+        outside = turned-true (v .inside) (a1 .0);
+        rises = leb-true _ _ (a2 .0);
+        room = ltb-true _ _ (a3 .0);
+        pollutant-least = leb-true _ _ (b1 .0);
+        pollutant-most = leb-true _ _ (b2 .0);
+        required-most = leb-true _ _ (b3 .0);
+        furnace-least = leb-true _ _ (b4 .0);
+        furnace-most = leb-true _ _ (b5 .0);
+        coal-least = leb-true _ _ (b6 .0);
+        coal-most = leb-true _ _ (b7 .0);
+        mw-least = leb-true _ _ (b8 .0);
+        mark-least = leb-true _ _ (b9 .0);
+        mark-most = leb-true _ _ (b10 .0);
+        days-least = leb-true _ _ (b11 .0);
+        days-most = leb-true _ _ (b12 .0);
+      }
+
+  pub day-ok : (runs : List ℕ) (d : DayMasks) → judgeFlat place v runs (OfDay d) ≡ fine → DayOk v d
+  unfolding judgeFlat placeDay rangeMasks
+  day-ok runs d e =
+      let both = both-passed (placeDay place v (d .number)) (rangeMasks place (d .run) (d .measured)) (search stands depth 20) e in
+      let a1 = passed 2 place (v .inside) _ refl (both .0) in
+      let a2 = passed 2 place (ltb (v .days) (v .head .days)) _ refl (a1 .1) in
+      let a3 = passed 2 place (eqb (d .number) (v .days)) _ refl (a2 .1) in
+      let b1 = passed 3 place (ltb (d .run) (2 ^ 24)) _ refl (both .1) in
+      let b2 = passed 3 place (ltb (d .measured) (2 ^ 24)) _ refl (b1 .1) in
+      let b3 = passed 3 place (eqb (straysOf (d .run) (d .measured)) 0) _ refl (b2 .1) in
+      record {
+        inside = a1 .0;
+        room = ltb-true _ _ (a2 .0);
+        turn = eqb-true _ _ (a3 .0);
+        run-bits = ltb-true _ _ (b1 .0);
+        measured-bits = ltb-true _ _ (b2 .0);
+        no-strays = eqb-true _ _ (b3 .0);
+      }
+
+  -- the tests that both kinds of survey pass after their own
+  survey-ok : (runs : List ℕ) (floor : ℕ) (s : Survey) → v .inside ≡ true → v .days ≡ v .head .days → v .batches ≡ 0 → floor ≤ s .hour → surveysLeft v ≡ true
+      → judgeSurvey place v runs s ≡ fine → SurveyOk v runs floor s
+  unfolding judgeSurvey judgeStopped surveysLeft
+  survey-ok runs floor s i d b f l e =
+      let a = passed 3 place (ltb (s .hour) (24 * v .head .days)) _ refl e in
+      let both = both-passed (judgePair place (s .pair)) (judgeStopped place runs (s .hour)) (pair-stands place (s .pair)) (a .1) in
+      record {
+        inside = i;
+        days-done = d;
+        before-fuel = b;
+        rises = f;
+        room = ltb-true _ _ l;
+        in-period = ltb-true _ _ (a .0);
+        pair = pair-accepted place (s .pair) (both .0);
+        running = passed 5 place (runsAt runs (s .hour)) _ refl (both .1) .0;
+      }
+
+  pub enforcement-ok : (runs : List ℕ) (s : Survey) → judgeFlat place v runs (OfEnforcement s) ≡ fine → (v .plant .count ≡ 0) × SurveyOk v runs (v .enforcement .floor) s
+  unfolding judgeFlat placeEnforcement
+  enforcement-ok runs s e =
+      let both = both-passed (placeEnforcement place v s) (judgeSurvey place v runs s) (search stands depth 20) e in
+      let a1 = passed 2 place (v .inside) _ refl (both .0) in
+      let a2 = passed 2 place (eqb (v .days) (v .head .days)) _ refl (a1 .1) in
+      let a3 = passed 2 place (eqb (v .plant .count) 0) _ refl (a2 .1) in
+      let a4 = passed 2 place (eqb (v .batches) 0) _ refl (a3 .1) in
+      let a5 = passed 2 place (leb (v .enforcement .floor) (s .hour)) _ refl (a4 .1) in
+      let a6 = passed 2 place (surveysLeft v) _ refl (a5 .1) in
+      (eqb-true _ _ (a3 .0), survey-ok runs (v .enforcement .floor) s (a1 .0) (eqb-true _ _ (a2 .0)) (eqb-true _ _ (a4 .0)) (leb-true _ _ (a5 .0)) (a6 .0) (both .1))
+
+  pub plant-ok : (runs : List ℕ) (s : Survey) → judgeFlat place v runs (OfPlant s) ≡ fine → SurveyOk v runs (v .plant .floor) s
+  unfolding judgeFlat placePlant
+  plant-ok runs s e =
+      let both = both-passed (placePlant place v s) (judgeSurvey place v runs s) (search stands depth 20) e in
+      let a1 = passed 2 place (v .inside) _ refl (both .0) in
+      let a2 = passed 2 place (eqb (v .days) (v .head .days)) _ refl (a1 .1) in
+      let a3 = passed 2 place (eqb (v .batches) 0) _ refl (a2 .1) in
+      let a4 = passed 2 place (leb (v .plant .floor) (s .hour)) _ refl (a3 .1) in
+      let a5 = passed 2 place (surveysLeft v) _ refl (a4 .1) in
+      survey-ok runs (v .plant .floor) s (a1 .0) (eqb-true _ _ (a2 .0)) (eqb-true _ _ (a3 .0)) (leb-true _ _ (a4 .0)) (a5 .0) (both .1)
+
+  pub batch-ok : (runs : List ℕ) (b : Batch) → judgeFlat place v runs (OfBatch b) ≡ fine → BatchOk v b
+  unfolding judgeFlat placeBatch rangeBatch
+  batch-ok runs b e =
+      let both = both-passed (placeBatch place v) (rangeBatch place v b) (search stands depth 20) e in
+      let a1 = passed 2 place (v .inside) _ refl (both .0) in
+      let a2 = passed 2 place (eqb (v .days) (v .head .days)) _ refl (a1 .1) in
+      let a3 = passed 2 place (ltb (v .batches) 92) _ refl (a2 .1) in
+      let b1 = passed 3 place (leb 1 (b .kg)) _ refl (both .1) in
+      let b2 = passed 3 place (leb (b .sulphur) 2_000) _ refl (b1 .1) in
+      let b3 = passed 3 place (leb (b .ash) 10_000) _ refl (b2 .1) in
+      let b4 = passed 3 place (leb (v .fuel + b .kg) 10_000_000_000) _ refl (b3 .1) in
+      record {
+        inside = a1 .0;
+        days-done = eqb-true _ _ (a2 .0);
+        room = ltb-true _ _ (a3 .0);
+        kg-least = leb-true _ _ (b1 .0);
+        sulphur-most = leb-true _ _ (b2 .0);
+        ash-most = leb-true _ _ (b3 .0);
+        fuel-most = leb-true _ _ (b4 .0);
+      }
+
+  entry-ok : (entry : Coefficients) → judgeEntry place entry ≡ fine → entry ≡ NoEntry → ⊥
+  unfolding judgeEntry refuse fine
+  entry-ok entry e q = let z : _≡_ {A = ℕ} 7 0 = ap (λ (f : Fault). f .number) (sym (ap (judgeEntry place) q) ∙ e) in omega arith
+
+  fuel-ok : judgeFuel place v ≡ fine → 2 < methodOf (v .head) (v .enforcement .count + v .plant .count) (v .running) (v .missing) → (0 < v .batches) × (coefficientsOf (v .head) ≡ NoEntry → ⊥)
+  unfolding judgeFuel
+  fuel-ok e l =
+      let a = passed 6 place (ltb 0 (v .batches)) _ refl (pick-not-le _ _ _ _ _ l refl ∙ e) in
+      (ltb-true _ _ (a .0), entry-ok (coefficientsOf (v .head)) (a .1))
+
+  pub end-ok : (runs : List ℕ) → judgeFlat place v runs OfEnd ≡ fine → EndOk v
+  unfolding judgeFlat placeEnd
+  end-ok runs e =
+      let both = both-passed (placeEnd place v) (judgeFuel place v) (search stands depth 20) e in
+      let a1 = passed 2 place (v .inside) _ refl (both .0) in
+      let a2 = passed 2 place (eqb (v .days) (v .head .days)) _ refl (a1 .1) in
+      record { inside = a1 .0; days-done = eqb-true _ _ (a2 .0); by-fuel = fuel-ok (both .1) }
+
+  -- a bad record is always refused
+  pub bad-refused : (runs : List ℕ) → judgeFlat place v runs Bad ≡ fine → ⊥
+  unfolding judgeFlat refuse fine
+  bad-refused runs e = let z : _≡_ {A = ℕ} 1 0 = ap (λ (f : Fault). f .number) e in omega arith

@@ -1,0 +1,24 @@
+-- `judge::ends::place_end` meets its contract: each return is where the rule leads by the same tests. Assumes nothing.
+use Rattle.rules.specs.Judge.{placeEnd, refuse, fine}
+use Rattle.judge.proofs.Tests.{tested}
+use borrow.Author.Needs.{needs}
+use Rattle.judge.proofs.ends.place_end.Statement.{statement}
+use Rattle.judge.proofs.ends.place_end.Tie as tie
+
+returns : tie.Need-returns
+unfolding placeEnd refuse fine
+returns c = search tested depth 16
+
+cast-if2 : tie.Need-cast-if2
+cast-if2 c = search needs
+
+returns-2 : tie.Need-returns-2
+unfolding placeEnd refuse fine
+returns-2 c = search tested depth 16
+
+returns-3 : tie.Need-returns-3
+unfolding placeEnd refuse fine
+returns-3 c = search tested depth 16
+
+pub place-end-spec : {M : Type 1} → statement M
+place-end-spec = tie.close (tie.spec returns cast-if2 returns-2 returns-3)
