@@ -1,0 +1,141 @@
+-- What the calls at the end of a line leave, put together. Assumes nothing.
+use mathlib.Core.Path.{_≡_, refl, _∙_, sym, ap, ap₂, subst}
+use mathlib.Core.List.{List, [], _∷_, _++_}
+use Prim.Native.Nat.{ℕ, _+_, _-_, _*_, _/_, _^_, _≤_, _<_, min}
+use native.Mathlib.Nat.{mul-div-mul-right, mul-le-mul, mul-le-mul-right}
+use native.Mathlib.Omega.{arith}
+use lib.ListN.{length, take, drop, getD, length-take}
+use lib.Seq.{take-at, getD-take}
+use lib.Dec.{ltb, eqb}
+use Rattle.law.specs.Words.{need, table, over, halvesUp, largest}
+use Rattle.law.proofs.Tests.{need-case}
+use Rattle.law.proofs.Halves.{halves-within}
+use mathlib.Core.Bool.{Bool, true, false}
+use borrow.Author.Tests.{eqb-true, eqb-false}
+use Rattle.rules.specs.declared.View.{View}
+use Rattle.quarter.specs.declared.books.Sums.{Sums}
+use Rattle.quarter.specs.Taking.{viewMethod, EndReady, EndTaken}
+use Rattle.quarter.specs.declared.take.Taken.{Taken}
+use Rattle.quarter.specs.Books.{patched}
+use Rattle.quarter.specs.Views.{afterEnd}
+use Rattle.rules.specs.Judge.{fine}
+use Rattle.rules.specs.Hours.{firstMissing}
+use Rattle.law.proofs.Tables.{table-length}
+use Rattle.hours.specs.States.{stateAt}
+use Rattle.fills.specs.declared.Weight.{Weight}
+use Rattle.fills.specs.declared.Weight.the-variants.{Of, Over}
+use Rattle.fills.specs.Gaps.{hoursIn, filledCells}
+use Rattle.fills.specs.Weights.{products, weightOf}
+use Rattle.fills.proofs.States.{hours-all}
+use Rattle.fills.proofs.Bounds.{largest-each, filled-most, products-most}
+use Rattle.quarter.specs.Closing.{weightIn, periodStates, FilledLine, Limits, periodWeight, LineGrams, withGrams}
+
+-- the states of the period, as the part of them that is lent
+states-part : (runs measured : List ℕ) (days : ℕ) (cells st : List ℕ) → days ≤ 92 → length cells ≡ 2_208
+    → st ≡ over (stateAt runs measured) (min (24 * days) (length cells)) cells → take (24 * days - 0) (drop 0 st) ≡ periodStates runs measured days
+states-part runs measured days cells st l e s =
+    let n : min (24 * days) (length cells) ≡ 24 * days = omega arith in
+    let z : 24 * days - 0 ≡ 24 * days = omega arith in
+    ap₂ take z (s ∙ ap (λ (k : ℕ). over (stateAt runs measured) k cells) n)
+    ∙ take-at (table (stateAt runs measured) (24 * days)) (drop (24 * days) cells) (24 * days) (table-length (stateAt runs measured) (24 * days))
+
+pub line-filled : (runs measured conc flow : List ℕ) (days : ℕ) (cells st conc' flow' : List ℕ) (w : Weight) (r : ℕ) → days ≤ 92 → length cells ≡ 2_208
+    → st ≡ over (stateAt runs measured) (min (24 * days) (length cells)) cells
+    → conc' ≡ filledCells (take (24 * days - 0) (drop 0 st)) conc → flow' ≡ filledCells (take (24 * days - 0) (drop 0 st)) flow
+    → w ≡ weightOf (take (24 * days - 0) (drop 0 conc')) (take (24 * days - 0) (drop 0 flow')) → r ≡ weightIn w
+    → FilledLine runs measured days conc flow conc' flow' r
+line-filled runs measured conc flow days cells st conc' flow' w r l e s c f v q =
+    let z : 24 * days - 0 ≡ 24 * days = omega arith in
+    let p = states-part runs measured days cells st l e s in
+    record {
+      concentrations = c ∙ ap (λ (t : List ℕ). filledCells t conc) p;
+      flows = f ∙ ap (λ (t : List ℕ). filledCells t flow) p;
+      weight = q ∙ ap weightIn (v ∙ ap (λ (k : ℕ). weightOf (take k conc') (take k flow')) z);
+    }
+
+pub halves-of : (n half : ℕ) → 0 < half → (n + half) / (2 * half) ≡ halvesUp n (2 * half)
+unfolding halvesUp
+halves-of n half p =
+    let e : 2 * n + 2 * half ≡ (n + half) * 2 = omega arith in
+    let f : 2 * (2 * half) ≡ 2 * half * 2 = omega arith in
+    sym (ap₂ _/_ e f ∙ mul-div-mul-right (n + half) (2 * half) (let z : 0 < 2 = omega arith in z))
+
+-- ---- no weight of a period is too large
+weight-most : (xs ys : List ℕ) → weightIn (weightOf xs ys) ≤ products xs ys
+unfolding weightOf
+weight-most xs ys = need-case (λ (w : Weight). weightIn w ≤ products xs ys) Over (ltb (products xs ys) (2 ^ 64)) (Of (products xs ys)) (λ _. omega arith) (λ _. omega arith)
+
+module _ (runs measured : List ℕ) (days : ℕ) (few : days ≤ 92) where
+  states-length : length (periodStates runs measured days) ≡ 24 * days
+  states-length = table-length (stateAt runs measured) (24 * days)
+
+  filled-largest : (M : ℕ) (cells : List ℕ) → length cells ≡ 2_208 → ((h : ℕ) → getD cells h 0 ≤ M) → largest (take (24 * days) (filledCells (periodStates runs measured days) cells)) ≤ M
+  filled-largest M cells e m =
+      let states = periodStates runs measured days in
+      let all : hoursIn states cells ≡ 24 * days = hours-all states cells (omega (arith, states-length)) (omega (arith, states-length)) ∙ states-length in
+      largest-each M (take (24 * days) (filledCells states cells))
+      (λ k l.
+      let i : k < 24 * days = omega (arith, simp length-take at l) in
+      subst (λ (v : ℕ). v ≤ M) (sym (getD-take (24 * days) (filledCells states cells) k 0 i)) (filled-most M states cells (λ j t. m j) k (omega arith)))
+
+  pub period-products : (conc flow : List ℕ) → length conc ≡ 2_208 → length flow ≡ 2_208 → Limits conc flow
+      → products (take (24 * days) (filledCells (periodStates runs measured days) conc)) (take (24 * days) (filledCells (periodStates runs measured days) flow)) ≤ 11_040_000_000_000_000
+  period-products conc flow c f l =
+      let xs = take (24 * days) (filledCells (periodStates runs measured days) conc) in
+      let ys = take (24 * days) (filledCells (periodStates runs measured days) flow) in
+      let n : length xs ≤ 2_208 = simp length-take (omega arith) in
+      omega (arith, products-most 1_000_000 5_000_000 xs ys (filled-largest 1_000_000 conc c (l .concentrations)) (filled-largest 5_000_000 flow f (l .flows)))
+
+  pub period-most : (conc flow : List ℕ) → length conc ≡ 2_208 → length flow ≡ 2_208 → Limits conc flow
+      → periodWeight days (filledCells (periodStates runs measured days) conc) (filledCells (periodStates runs measured days) flow) ≤ 11_040_000_000_000_000
+  period-most conc flow c f l = omega (arith, weight-most (take (24 * days) (filledCells (periodStates runs measured days) conc)) (take (24 * days) (filledCells (periodStates runs measured days) flow)), period-products conc flow c f l)
+
+-- a share of the grams is at most all of them
+pub share-most : (pollutant own grams r : ℕ) → r ≡ need 0 (eqb pollutant own) grams → r ≤ grams
+share-most pollutant own grams r e =
+    subst (λ (n : ℕ). n ≤ grams) (sym e) (need-case (λ (n : ℕ). n ≤ grams) 0 (eqb pollutant own) grams (λ _. omega arith) (λ _. omega arith))
+
+-- ---- no line's grams are too large
+halves-most : (n d m : ℕ) → 100_000 ≤ d → n ≤ m → 2 * (100_000 * halvesUp n d) ≤ 2 * m + d
+halves-most n d m l h =
+    let w = halves-within n d (omega arith) in
+    let k : 100_000 * halvesUp n d ≤ d * halvesUp n d = mul-le-mul-right (halvesUp n d) l in
+    omega (arith, w .1)
+
+module _ (v : View) (s : Sums) (runs measured conc flow out conc' flow' : List ℕ) (g : ℕ) (e : EndReady v s conc flow out) where
+  small-by : (m : ℕ) → m ≡ viewMethod v → LineGrams m v s runs measured conc flow conc' flow' g → (a b : Bool) → eqb m 1 ≡ a → eqb m 2 ≡ b → g ≤ 20_000_000_000_000
+  small-by m q r true b t u =
+      let k = r .automatic (eqb-true m 1 t) in
+      let most = period-most runs measured (v .head .days) (e .days) conc flow (e .concLong) (e .flowLong) (e .limits) in
+      let w = k .2 ∙ ap₂ (λ (x y : List ℕ). halvesUp (periodWeight (v .head .days) x y) 100_000) (k .0) (k .1) in
+      let h = halves-most (periodWeight (v .head .days) (filledCells (periodStates runs measured (v .head .days)) conc) (filledCells (periodStates runs measured (v .head .days)) flow)) 100_000 11_040_000_000_000_000 (omega arith) most in
+      omega (arith, w, h)
+  small-by m q r false true t u =
+      let z = eqb-true m 2 u in
+      let k = r .manual z in
+      let one = e .some (sym q ∙ z) in
+      let h = halves-most (s .weight * v .running) (s .surveyed * 100_000) 1_324_800_000_000_000_000 (omega arith) (mul-le-mul {n₂ = 600_000_000_000_000} {m₂ = 2_208} (e .weight) (e .running)) in
+      omega (arith, k .2, h, e .surveyed)
+  small-by m q r false false t u =
+      let k = r .fuel (eqb-false m 1 t) (eqb-false m 2 u) in
+      omega (arith, k .2, e .fuel)
+
+  pub line-small : (m : ℕ) → m ≡ viewMethod v → LineGrams m v s runs measured conc flow conc' flow' g → g ≤ 20_000_000_000_000
+  line-small m q r = small-by m q r (eqb m 1) (eqb m 2) refl refl
+
+-- ---- the end of a line, put together
+pub end-taken : (v : View) (s : Sums) (runs measured conc flow out conc' flow' out' : List ℕ) (r : Taken) (m g first : ℕ) → EndReady v s conc flow out → m ≡ viewMethod v
+    → LineGrams m v s runs measured conc flow conc' flow' g → first ≡ firstMissing runs measured (v .head .days)
+    → out' ≡ patched (λ k. getD (v .head .stack ∷ v .head .pollutant ∷ m ∷ g ∷ v .running ∷ v .missing ∷ first ∷ []) k 0) 7 (7 * v .lines) out
+    → r .fault ≡ fine → r .view ≡ afterEnd v → r .sums ≡ withGrams s (v .head .pollutant) g
+    → EndTaken v s runs measured conc flow out conc' flow' out' r
+end-taken v s runs measured conc flow out conc' flow' out' r m g first e q l f o a b c =
+    record {
+      grams = g;
+      small = line-small v s runs measured conc flow out conc' flow' g e m q l;
+      figures = subst (λ (k : ℕ). LineGrams k v s runs measured conc flow conc' flow' g) q l;
+      faults = a;
+      view = b;
+      sums = c;
+      outNow = o ∙ ap₂ (λ (k n : ℕ). patched (λ i. getD (v .head .stack ∷ v .head .pollutant ∷ k ∷ g ∷ v .running ∷ v .missing ∷ n ∷ []) i 0) 7 (7 * v .lines) out) q f;
+    }

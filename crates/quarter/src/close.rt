@@ -1,0 +1,113 @@
+// The end of a line: its gaps filled and weighed, its grams.
+use crate::books::Sums;
+use fills::Weight;
+use fuel::FuelFigure;
+use rules::View;
+ghost use mathlib.Core.Path.{_≡_};
+ghost use Prim.Native.Nat.{_+_, _*_, _^_, _<_, _≤_};
+ghost use lib.ListN.{length};
+ghost use Rattle.law.specs.Words.{need, halvesUp};
+ghost use lib.Dec.{eqb};
+ghost use Rattle.fills.specs.Gaps.{filledCells};
+ghost use Rattle.quarter.specs.Closing.{weightIn, gramsIn, FilledLine, periodStates, periodWeight, Limits, LineGrams, withGrams};
+
+fn weight_in(w: Weight) -> u64
+    ensures { λ r. ⌜ r ≡ weightIn w ⌝ }
+{
+    match w {
+        Weight::Of(n) => n,
+        Weight::Over => 0,
+    }
+}
+
+fn grams_in(f: FuelFigure) -> u64
+    ensures { λ r. ⌜ r ≡ gramsIn f ⌝ }
+{
+    match f {
+        FuelFigure::Grams(g) => g,
+        FuelFigure::NoEntry => 0,
+        FuelFigure::OutOfRange => 0,
+    }
+}
+
+// n over twice `half`, halves up: n and half are added, so that no n is doubled.
+fn halves_up(n: u64, half: u64) -> u64
+    requires { ⌜ (0 < half) × (n + half < 2 ^ 64) × (2 * half < 2 ^ 64) ⌝ }
+    ensures { λ r. ⌜ r ≡ halvesUp n (2 * half) ⌝ }
+{
+    (n + half) / (2 * half)
+}
+
+// Both quantities of a line filled, and the sum of c x l.
+fn fill_line(runs: &[u32], measured: &[u32], days: u8, conc: &mut [u32], flow: &mut [u32]) -> u64
+    requires { ⌜ (days ≤ 92) × (length (now conc) ≡ 2208) × (length (now flow) ≡ 2208) ⌝ }
+    ensures { λ r. ⌜ FilledLine (now (runs .entry)) (now (measured .entry)) days (now (conc .entry)) (now (flow .entry)) (now (conc .exit)) (now (flow .exit)) r ⌝ }
+{
+    let mut states = [0u8; 2208];
+    hours::hour_states(runs, measured, days, &mut states);
+    let n = 24 * (days as usize);
+    fills::fill_gaps(&states[0..n], conc);
+    fills::fill_gaps(&states[0..n], flow);
+    weight_in(fills::weigh(&conc[0..n], &flow[0..n]))
+}
+
+fn automatic_grams(
+    runs: &[u32],
+    measured: &[u32],
+    days: u8,
+    conc: &mut [u32],
+    flow: &mut [u32],
+) -> u64
+    requires { ⌜ (days ≤ 92) × (length (now conc) ≡ 2208) × (length (now flow) ≡ 2208) × Limits (now conc) (now flow) ⌝ }
+    ensures { λ r. ⌜ (now (conc .exit) ≡ filledCells (periodStates (now (runs .entry)) (now (measured .entry)) days) (now (conc .entry))) × (now (flow .exit) ≡ filledCells (periodStates (now (runs .entry)) (now (measured .entry)) days) (now (flow .entry))) × (r ≡ halvesUp (periodWeight days (now (conc .exit)) (now (flow .exit))) 100_000) ⌝ }
+{
+    halves_up(fill_line(runs, measured, days, conc, flow), 50_000)
+}
+
+fn manual_grams(s: Sums, running: u32) -> u64
+    requires { ⌜ (0 < s .surveyed) × (s .surveyed ≤ 120) × (s .weight ≤ 600_000_000_000_000) × (running ≤ 2208) ⌝ }
+    ensures { λ r. ⌜ r ≡ halvesUp (s .weight * running) (s .surveyed * 100_000) ⌝ }
+{
+    halves_up(s.weight * (running as u64), (s.surveyed as u64) * 50_000)
+}
+
+// The grams of a line, and its cells filled under method 1.
+pub fn line_grams(
+    method: u32,
+    v: View,
+    s: Sums,
+    runs: &[u32],
+    measured: &[u32],
+    conc: &mut [u32],
+    flow: &mut [u32],
+) -> u64
+    requires { ⌜ (v .head .days ≤ 92) × (length (now conc) ≡ 2208) × (length (now flow) ≡ 2208) × Limits (now conc) (now flow) × (method ≡ 2 → 0 < s .surveyed) × (s .surveyed ≤ 120) × (s .weight ≤ 600_000_000_000_000) × (v .running ≤ 2208) ⌝ }
+    ensures { λ r. ⌜ LineGrams method v s (now (runs .entry)) (now (measured .entry)) (now (conc .entry)) (now (flow .entry)) (now (conc .exit)) (now (flow .exit)) r ⌝ }
+{
+    if method == 1 {
+        let h = v.head;
+        return automatic_grams(runs, measured, h.days, conc, flow);
+    }
+    if method == 2 {
+        return manual_grams(s, v.running);
+    }
+    let h = v.head;
+    grams_in(fuel::fuel_figure(h, v.fuel, s.sulphur, s.ash))
+}
+
+fn share(pollutant: u8, own: u8, grams: u64) -> u64
+    ensures { λ r. ⌜ r ≡ need 0 (eqb pollutant own) grams ⌝ }
+{
+    if pollutant == own { grams } else { 0 }
+}
+
+pub fn with_grams(s: Sums, pollutant: u8, grams: u64) -> Sums
+    requires { ⌜ (grams ≤ 20_000_000_000_000) × (s .total1 ≤ 960_000_000_000_000) × (s .total2 ≤ 960_000_000_000_000) × (s .total3 ≤ 960_000_000_000_000) ⌝ }
+    ensures { λ r. ⌜ r ≡ withGrams s pollutant grams ⌝ }
+{
+    let mut n = s;
+    n.total1 = share(pollutant, 1, grams) + s.total1;
+    n.total2 = share(pollutant, 2, grams) + s.total2;
+    n.total3 = share(pollutant, 3, grams) + s.total3;
+    n
+}
