@@ -58,7 +58,7 @@ entry-stands place NoEntry = sym (first-refused 7 place fine refl)
 module _ (place : ℕ) (v : View) (runs : List ℕ) where
   -- what judging a record as the code holds it says refuses, or is fine
   pub flat-stands : (r : Record) → Stands (judgeFlat place v runs r)
-  unfolding judgeFlat rangeHead rangeMasks judgeSurvey judgeStopped rangeBatch judgeFuel
+  unfolding judgeFlat rangeHead placeDay rangeMasks judgeSurvey judgeStopped rangeBatch judgeFuel
   flat-stands Bad = sym (first-refused 1 place fine refl)
   flat-stands (OfHead h) = search stands depth 20
   flat-stands (OfDay d) = search stands depth 20

@@ -60,7 +60,7 @@ table-limits x b =
       flows = λ h. table-most (λ k. valuesAt x k .l) 5_000_000 (b .flows) h (decLt h 2_208);
     }
 
-in-range : (x : Line) → Bounded x → InRange (x .batches)
+pub in-range : (x : Line) → Bounded x → InRange (x .batches)
 in-range x b = record { kg = b .fuelMost; sulphur = b .sulphurMost; ash = b .ashMost }
 
 module _ (x : Line) (b : Bounded x) (all-days : length (x .days) ≡ x .head .days) where

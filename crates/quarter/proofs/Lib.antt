@@ -6,3 +6,7 @@ pub mod Filled
 pub mod Closed
 pub mod Standing
 pub mod Ending
+pub mod Takes
+pub mod Going
+pub mod Promises
+pub mod Only

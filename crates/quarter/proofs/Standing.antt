@@ -22,10 +22,10 @@ use Rattle.rules.specs.Hours.{bit, pairAt, slotOf, runMasks, measuredMasks, run
 use Rattle.rules.specs.Lines.{Line, hasSurvey, surveyed, surveys, fuel}
 use Rattle.rules.specs.Fill.{Values, zeroes}
 use Rattle.rules.specs.Grams.{valuesOf}
-use Rattle.rules.specs.Judge.{fine, judgeHours, judgePair}
+use Rattle.rules.specs.Judge.{fine, judgeHours}
 use Rattle.rules.specs.Walk.{Stand, Between, Inside, viewOf, begun, withDay, withEnforcement, withPlant, withBatch}
 use Rattle.record.specs.Flat.{masksOf, kept, concentrationAt, flowAt}
-use Rattle.record.proofs.Laws.{PairAccepted, pair-accepted, day-accepted, concentration-blank, flow-blank, concentration-most, flow-most}
+use Rattle.record.proofs.Laws.{PairAccepted, day-accepted, concentration-blank, flow-blank, concentration-most, flow-most}
 use Rattle.quarter.specs.declared.books.Sums.{Sums}
 use Rattle.quarter.specs.declared.take.Taken.{Taken}
 use Rattle.quarter.specs.Views.{afterHead, afterDay, afterEnforcement, afterPlant, afterBatch, openedSums, withSurvey, withFuel}
@@ -141,21 +141,21 @@ kept-day x done place bytes v s runs measured flags conc flow out runs' measured
     (books-as (withDay x d) books (t .sums) er em refl ec el)
 
 -- ---- surveys: an accepted pair's kept values are its values
-survey-c : (place : ℕ) (t : Survey) → judgePair place (t .pair) ≡ fine → surveyC t ≡ valuesOf (t .pair) .c
+survey-c : (t : Survey) → PairAccepted (t .pair) → surveyC t ≡ valuesOf (t .pair) .c
 unfolding kept valuesOf
-survey-c place t e = ap kept (pair-accepted place (t .pair) e .concentration-value)
+survey-c t e = ap kept (e .concentration-value)
 
-survey-l : (place : ℕ) (t : Survey) → judgePair place (t .pair) ≡ fine → surveyL t ≡ valuesOf (t .pair) .l
+survey-l : (t : Survey) → PairAccepted (t .pair) → surveyL t ≡ valuesOf (t .pair) .l
 unfolding kept valuesOf
-survey-l place t e = ap kept (pair-accepted place (t .pair) e .flow-value)
+survey-l t e = ap kept (e .flow-value)
 
-most-c : (place : ℕ) (t : Survey) → judgePair place (t .pair) ≡ fine → valuesOf (t .pair) .c ≤ 1_000_000
+most-c : (t : Survey) → PairAccepted (t .pair) → valuesOf (t .pair) .c ≤ 1_000_000
 unfolding valuesOf
-most-c place t e = pair-accepted place (t .pair) e .concentration-most
+most-c t e = e .concentration-most
 
-most-l : (place : ℕ) (t : Survey) → judgePair place (t .pair) ≡ fine → valuesOf (t .pair) .l ≤ 5_000_000
+most-l : (t : Survey) → PairAccepted (t .pair) → valuesOf (t .pair) .l ≤ 5_000_000
 unfolding valuesOf
-most-l place t e = pair-accepted place (t .pair) e .flow-most
+most-l t e = e .flow-most
 
 pick-on : {A : Type 0} (b : Bool) (x y : A) → b ≡ true → pick b x y ≡ x
 unfolding pick
@@ -176,9 +176,9 @@ unfolding pick
 pick-length true cells h v = length-set cells h v
 pick-length false cells h v = refl
 
-module _ (x : Line) (done : List Line) (place : ℕ) (v : View) (s : Sums) (t : Survey) (runs measured flags conc flow out : List ℕ)
+module _ (x : Line) (done : List Line) (v : View) (s : Sums) (t : Survey) (runs measured flags conc flow out : List ℕ)
     (k : Kept (Inside x done) v s runs measured flags conc flow out)
-    (hour : t .hour < 24 * x .head .days) (all-days : length (x .days) ≡ x .head .days) (room : surveys x < 120) (ok : judgePair place (t .pair) ≡ fine)
+    (hour : t .hour < 24 * x .head .days) (all-days : length (x .days) ≡ x .head .days) (room : surveys x < 120) (ok : PairAccepted (t .pair))
   where
     abbrev masks : List ℕ
     masks = measuredMasks (x .days)
@@ -187,21 +187,21 @@ module _ (x : Line) (done : List Line) (place : ℕ) (v : View) (s : Sums) (t : 
     within = omega (arith, k .books .bounded .period)
 
     cell-c : (cells : List ℕ) → replacedCell masks (t .hour) (surveyC t) cells ≡ replacedCell masks (t .hour) (valuesOf (t .pair) .c) cells
-    cell-c cells = ap (λ (n : ℕ). replacedCell masks (t .hour) n cells) (survey-c place t ok)
+    cell-c cells = ap (λ (n : ℕ). replacedCell masks (t .hour) n cells) (survey-c t ok)
 
     cell-l : (cells : List ℕ) → replacedCell masks (t .hour) (surveyL t) cells ≡ replacedCell masks (t .hour) (valuesOf (t .pair) .l) cells
-    cell-l cells = ap (λ (n : ℕ). replacedCell masks (t .hour) n cells) (survey-l place t ok)
+    cell-l cells = ap (λ (n : ℕ). replacedCell masks (t .hour) n cells) (survey-l t ok)
 
     pub kept-enforcement : (flags' conc' flow' : List ℕ) (r : Taken) → x .plant ≡ [] → EnforcementTaken v s t masks flags conc flow flags' conc' flow' r
         → Kept (Inside (withEnforcement x t) done) (r .view) (r .sums) runs measured flags' conc' flow' out
     kept-enforcement flags' conc' flow' r none e =
-        let books = enforcement-books x t within (k .books .bounded) all-days none room (most-c place t ok) (most-l place t ok) s runs measured flags conc flow (k .books) in
+        let books = enforcement-books x t within (k .books .bounded) all-days none room (most-c t ok) (most-l t ok) s runs measured flags conc flow (k .books) in
         kept-line x (withEnforcement x t) done v (r .view) s (r .sums) runs runs measured measured flags flags' conc conc' flow flow' out k
         (e .view ∙ ap (λ (w : View). afterEnforcement w (t .hour)) (k .view) ∙ view-enforcement x done t)
         (ap (λ (u : Sums). u .total1) (e .sums)) (ap (λ (u : Sums). u .total2) (e .sums)) (ap (λ (u : Sums). u .total3) (e .sums))
         refl refl (ap length (e .flagsNow) ∙ length-set flags (t .hour) 1)
         (ap length (e .concNow) ∙ pick-length (runsAt masks (t .hour)) conc (t .hour) (surveyC t)) (ap length (e .flowNow) ∙ pick-length (runsAt masks (t .hour)) flow (t .hour) (surveyL t))
-        (books-as (withEnforcement x t) books (e .sums ∙ ap₂ (withSurvey s) (survey-c place t ok) (survey-l place t ok)) refl refl (e .flagsNow) (e .concNow ∙ cell-c conc) (e .flowNow ∙ cell-l flow))
+        (books-as (withEnforcement x t) books (e .sums ∙ ap₂ (withSurvey s) (survey-c t ok) (survey-l t ok)) refl refl (e .flagsNow) (e .concNow ∙ cell-c conc) (e .flowNow ∙ cell-l flow))
 
     -- a flag is 1 where an enforcement survey stands
     flag-is : getD flags (t .hour) 0 ≡ flagAt (x .enforcement) (t .hour)
@@ -221,10 +221,10 @@ module _ (x : Line) (done : List Line) (place : ℕ) (v : View) (s : Sums) (t : 
           (ap (λ (u : Sums). u .total1) es) (ap (λ (u : Sums). u .total2) es) (ap (λ (u : Sums). u .total3) es)
           refl refl refl (ap length ec) (ap length el) (books-as (withPlant x t) books es refl refl refl ec el)
       plant-by false h q =
-          let es : r .sums ≡ withSurvey s (valuesOf (t .pair) .c) (valuesOf (t .pair) .l) = e .sums ∙ pick-off _ _ _ q ∙ ap₂ (withSurvey s) (survey-c place t ok) (survey-l place t ok) in
+          let es : r .sums ≡ withSurvey s (valuesOf (t .pair) .c) (valuesOf (t .pair) .l) = e .sums ∙ pick-off _ _ _ q ∙ ap₂ (withSurvey s) (survey-c t ok) (survey-l t ok) in
           let ec : conc' ≡ replacedCell masks (t .hour) (valuesOf (t .pair) .c) conc = e .concNow ∙ pick-off _ _ _ q ∙ cell-c conc in
           let el : flow' ≡ replacedCell masks (t .hour) (valuesOf (t .pair) .l) flow = e .flowNow ∙ pick-off _ _ _ q ∙ cell-l flow in
-          let books = plant-books x t within (k .books .bounded) all-days room h (most-c place t ok) (most-l place t ok) s runs measured flags conc flow (k .books) in
+          let books = plant-books x t within (k .books .bounded) all-days room h (most-c t ok) (most-l t ok) s runs measured flags conc flow (k .books) in
           kept-line x (withPlant x t) done v (r .view) s (r .sums) runs runs measured measured flags flags conc conc' flow flow' out k plant-view
           (ap (λ (u : Sums). u .total1) es) (ap (λ (u : Sums). u .total2) es) (ap (λ (u : Sums). u .total3) es)
           refl refl refl (ap length ec ∙ pick-length (runsAt masks (t .hour)) conc (t .hour) (valuesOf (t .pair) .c)) (ap length el ∙ pick-length (runsAt masks (t .hour)) flow (t .hour) (valuesOf (t .pair) .l))

@@ -3,3 +3,4 @@ pub mod Views
 pub mod Books
 pub mod Closing
 pub mod Taking
+pub mod Walking

@@ -9,7 +9,9 @@ use Rattle.rules.specs.Hours.{runningOf, missingOf}
 use Rattle.rules.specs.Judge.{key}
 use Rattle.rules.specs.Walk.{noHead}
 use Rattle.record.specs.declared.DayMasks.{DayMasks}
+use Rattle.rules.specs.declared.Fault.{Fault}
 use Rattle.quarter.specs.declared.books.Sums.{Sums}
+use Rattle.quarter.specs.declared.walk.Walked.{Walked}
 
 -- no survey yet
 abbrev pub noSurveys : Surveys
@@ -62,3 +64,7 @@ withFuel s b =
 -- no sums yet
 abbrev pub noSums : Sums
 noSums = record { surveyed = 0; weight = 0; sulphur = 0; ash = 0; total1 = 0; total2 = 0; total3 = 0 }
+
+-- what the walk hands back
+abbrev pub walkedOf : Fault → View → Sums → Walked
+walkedOf fault v s = record { fault = fault; lines = v .lines; total1 = s .total1; total2 = s .total2; total3 = s .total3 }

@@ -1,0 +1,12 @@
+-- `quarter::refused` meets its contract. Assumes nothing.
+use mathlib.Core.Path.{refl}
+use Rattle.rules.specs.Account.{refusal}
+use Rattle.quarter.proofs.refused.Statement.{statement}
+use Rattle.quarter.proofs.refused.Tie as tie
+
+returns : tie.Need-returns
+unfolding refusal
+returns c = refl
+
+pub refused-spec : {M : Type 1} → statement M
+refused-spec = tie.close (tie.spec returns)
