@@ -5,7 +5,8 @@ usage: tools/run.py FILE.rec..        (beside each FILE.rec a FILE.out with what
 
 A throwaway program of a throwaway repository under target/run/ takes every file in turn on its standard input, each with its length before it, calls
 `quarter::account` with rows and work cells that hold other values before, and prints the answer. `rt try` runs it compiled
-three ways, and on the interpreter as far as its steps reach, and compares. The program is not proved; the library it calls is. Beside the answer it prints `spoilt` where a cell that must stay or
+three ways, and on the interpreter as far as its steps reach, and compares. The program is not proved; the library it calls is. A file over 65,536 bytes never
+reaches the library: the program answers 13 by itself. Beside the answer it prints `spoilt` where a cell that must stay or
 become zero does not. The last line says how many files agree; the exit status is 0 only where all do.
 """
 import os, shutil, subprocess, sys, time
