@@ -7,3 +7,4 @@ pub mod Near
 pub mod Bounds
 pub mod Order
 pub mod Cases
+pub mod Rows

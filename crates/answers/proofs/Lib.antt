@@ -1,0 +1,4 @@
+-- What an answer says of the file.
+pub mod Walks
+pub mod Rows
+pub mod Answers
