@@ -1,0 +1,75 @@
+-- `printed::writing::put_rows` meets its contract. Assumes nothing.
+use mathlib.Core.Path.{refl, _∙_}
+use Prim.Native.Nat.{_-_, _≤_}
+use native.Mathlib.Omega.{arith}
+use borrow.Author.Needs.{needs}
+use Rattle.printed.proofs.Spaced.{Lining, lining-start, lining-on, lining-done}
+use Rattle.printed.proofs.Texts.{part-long, part-is}
+use denote.Ref.{now}
+use Rattle.printed.proofs.writing.put_rows.Statement.{statement}
+use Rattle.printed.proofs.writing.put_rows.Tie as tie
+
+abbrev Inv-loop : tie.InvT-loop
+Inv-loop text₀ rows n end₀ i₀ text end i = Lining text₀ rows text end i × (i ≤ n)
+
+abbrev μ-loop : tie.MeasureT-loop
+μ-loop text₀ rows n end₀ i₀ text end i = n - i
+
+loop-holds : tie.Need-loop-holds Inv-loop μ-loop
+loop-holds c = (lining-start _ _, omega arith)
+
+mul-from : tie.Need-mul-from Inv-loop μ-loop
+mul-from c = search needs
+
+add-to : tie.Need-add-to Inv-loop μ-loop
+add-to c = search needs
+
+mul-put-spaced : tie.Need-mul-put-spaced Inv-loop μ-loop
+mul-put-spaced c = search needs
+
+sub-put-spaced : tie.Need-sub-put-spaced Inv-loop μ-loop
+sub-put-spaced c = search needs
+
+part-put-spaced-start : tie.Need-part-put-spaced-start Inv-loop μ-loop
+part-put-spaced-start c = search needs
+
+part-put-spaced-end : tie.Need-part-put-spaced-end Inv-loop μ-loop
+part-put-spaced-end c = search needs
+
+put-spaced-requires : tie.Need-put-spaced-requires Inv-loop μ-loop
+put-spaced-requires c κs = let a = c .before .before .before in let l = part-long (now (a .before .before .before .args .rows)) (a .loop .i) (omega (arith, a .before .before .before .pre .0, c .before .before .loop-test .taken)) in (omega (arith, l), omega (arith, l, a .loop .inv .0 .below, a .loop .inv .0 .long, a .before .before .before .pre .1, c .before .before .loop-test .taken))
+
+add-i : tie.Need-add-i Inv-loop μ-loop
+add-i c = search needs
+
+loop-less : tie.Need-loop-less Inv-loop μ-loop
+loop-less c = omega arith
+
+loop-again : tie.Need-loop-again Inv-loop μ-loop
+loop-again c = let a = c .before .before .before .before .before .before in (lining-on _ _ _ _ _ _ _ _ (a .loop .inv .0) (part-is (now (a .before .before .before .args .rows)) (a .loop .i)) (part-long (now (a .before .before .before .args .rows)) (a .loop .i) (omega (arith, a .before .before .before .pre .0, c .before .before .before .before .before .loop-test .taken))) (c .before .before .put-spaced .kept .0) (c .before .before .put-spaced .ensures), omega (arith, c .before .before .before .before .before .loop-test .taken))
+
+same-length : tie.Need-same-length Inv-loop μ-loop
+same-length c = c .before .loop .inv .0 .long
+
+returns : tie.Need-returns Inv-loop μ-loop
+returns c = lining-done _ _ _ _ _ _ (c .before .loop .inv .0) (omega (arith, c .before .loop .inv .1, c .loop-test .left))
+
+pub put-rows-spec : {M : Type 1} → statement M
+put-rows-spec =
+    tie.close
+    (tie.spec
+    Inv-loop
+    μ-loop
+    loop-holds
+    mul-from
+    add-to
+    mul-put-spaced
+    sub-put-spaced
+    part-put-spaced-start
+    part-put-spaced-end
+    put-spaced-requires
+    add-i
+    loop-less
+    loop-again
+    same-length
+    returns)

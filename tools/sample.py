@@ -1,0 +1,90 @@
+#!/usr/bin/env python3
+"""Writes the realistic samples: samples/quarter.rec (a stack's quarter, 92 days, three pollutants) and samples/over.rec (a fourth line makes it too long
+for the program, not for the library). No chance is involved: the same bytes come out each time.
+
+usage: tools/sample.py
+
+The answers beside them (NAME.out what the program prints, NAME.library what the library answers to a file that is too long for the program) come from the
+independent reference under rust/, not from the proved code: `cargo run --release -p reference --example answer < NAME.rec`, with the word `library` for the second.
+"""
+import math, os, struct
+
+HERE = os.path.join(os.path.dirname(os.path.dirname(os.path.abspath(__file__))), 'samples')
+DAYS = 92
+
+
+def record(kind, body):
+    return struct.pack('<HH', len(body) + 2, kind) + body
+
+
+def head(stack, pollutant, required, furnace=1, coal=4, mw=330, mark=3):
+    return record(1, struct.pack('<HBBBBHBB', stack, pollutant, required, furnace, coal, mw, mark, DAYS))
+
+
+def survey(kind, hour, c, l):
+    return record(kind, struct.pack('<Hff', hour, c, l))
+
+
+def batch(kg, sulphur, ash):
+    return record(5, struct.pack('<QHH', kg, sulphur, ash))
+
+
+def load(hour):
+    """Share of full load: lower at night and on the seventh day."""
+    day, h = divmod(hour, 24)
+    return 0.62 + 0.3 * math.sin(math.pi * max(0, min(16, h - 6)) / 16) - (0.08 if day % 7 == 6 else 0)
+
+
+def readings(level, hour):
+    """Concentration in mg/m3 and dry flow in m3/h."""
+    x = load(hour)
+    return level * (0.85 + 0.3 * x) + 1.7 * math.sin(hour / 5), 1_050_000 * x + 9_000 * math.cos(hour / 11)
+
+
+def days(level, stopped, missing):
+    out = b''
+    for d in range(DAYS):
+        run = measured = 0
+        pairs = b''
+        for h in range(24):
+            t = 24 * d + h
+            pair = bytes(8)
+            if t not in stopped:
+                run |= 1 << h
+                if t not in missing:
+                    measured |= 1 << h
+                    pair = struct.pack('<ff', *readings(level, t))
+            pairs += pair
+        out += record(2, struct.pack('<BII', d, run, measured) + pairs)
+    return out
+
+
+def spans(*pairs):
+    return {t for a, n in pairs for t in range(a, a + n)}
+
+
+OUTAGE = spans((1000, 77))
+END = record(6, b'')
+
+
+def sulphur_dioxide(stack):
+    # short gaps, one over the outage, one of 31 hours; an inspector's survey replaces an hour
+    gaps = spans((50, 1), (200, 4), (611, 24), (990, 14), (1500, 31), (2207, 1))
+    return head(stack, 1, 1) + days(31.0, OUTAGE, gaps) + survey(3, 430, 33.25, 871_000.0) + survey(4, 430, 32.0, 870_000.0) + survey(4, 612, 30.5, 905_000.5) + END
+
+
+def nitrogen_oxides(stack):
+    # the analyser was dark for 700 hours; automatic is not required, and the plant measured by hand
+    return head(stack, 2, 0) + days(44.0, OUTAGE, spans((100, 700))) + b''.join(survey(4, h, 41.0 + h / 512, 840_000.0 + h) for h in (96, 480, 1200, 1980)) + END
+
+
+def dust(stack):
+    # as dark, but automatic is required: fuel speaks
+    return head(stack, 3, 1) + days(6.5, OUTAGE, spans((100, 700))) + batch(98_400_000, 71, 1_830) + batch(101_250_000, 64, 2_045) + batch(87_900_500, 90, 1_996) + END
+
+
+quarter = sulphur_dioxide(7) + nitrogen_oxides(7) + dust(7)
+over = quarter + head(8, 1, 1, furnace=3, coal=3) + days(58.0, OUTAGE, spans((1200, 560))) + batch(60_000_000, 112, 2_300) + batch(61_500_000, 98, 2_250) + END
+for name, data in (('quarter', quarter), ('over', over)):
+    open(os.path.join(HERE, name + '.rec'), 'wb').write(data)
+    print('samples/%s.rec: %d bytes' % (name, len(data)))
