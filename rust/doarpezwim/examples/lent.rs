@@ -1,0 +1,71 @@
+//! Calls the three functions on heap blocks of exactly the lent size, so that valgrind sees every step outside them.
+
+use doarpezwim::ffi;
+use inputs::{Case, Lookup, Rng, Size, Step};
+
+const SEED: u64 = 0x0d0a_29e2_0004;
+
+/// Each argument of the account call in a block of its own.
+fn account(case: Case, rng: &mut Rng) -> u32 {
+    let file = case.file.into_boxed_slice();
+    let mut rows = rng.garbage_u64(case.rows).into_boxed_slice();
+    let mut concentration = rng.garbage_u32(case.concentration).into_boxed_slice();
+    let mut flow = rng.garbage_u32(case.flow).into_boxed_slice();
+    let mut answer = Box::new([0; 6]);
+    // SAFETY: every pointer comes with the length of its own block.
+    unsafe {
+        ffi::quarter_account(
+            file.as_ptr(),
+            file.len(),
+            rows.as_mut_ptr(),
+            rows.len(),
+            concentration.as_mut_ptr(),
+            concentration.len(),
+            flow.as_mut_ptr(),
+            flow.len(),
+            &mut *answer,
+        )
+    }
+}
+
+fn panel(step: Step) -> u32 {
+    let (mut total, mut hours, mut missing) = (Box::new(step.total), Box::new(step.hours), Box::new(step.missing));
+    // SAFETY: the three pointers are blocks of their own.
+    unsafe { ffi::panel_hour(&mut *total, &mut *hours, &mut *missing, step.kind, step.concentration, step.flow) }
+}
+
+fn survey(lookup: Lookup) -> u32 {
+    let (enforcement, plant) = (lookup.enforcement.into_boxed_slice(), lookup.plant.into_boxed_slice());
+    let mut part = Box::new([0; 14]);
+    // SAFETY: every pointer comes with the length of its own block.
+    unsafe {
+        ffi::governing_survey_part(
+            enforcement.as_ptr(),
+            enforcement.len(),
+            plant.as_ptr(),
+            plant.len(),
+            lookup.hour,
+            &mut *part,
+        )
+    }
+}
+
+fn main() {
+    let mut rng = Rng::new(SEED);
+    let mut numbers = [0; 14];
+    let sizes = [(Size::Short, 900), (Size::Medium, 40), (Size::Long, 30), (Size::ManyLines, 10), (Size::Full, 2)];
+    for (size, count) in sizes {
+        for _ in 0..count {
+            let case = Case::of_size(size, &mut rng);
+            numbers[account(case, &mut rng) as usize] += 1;
+        }
+    }
+    println!("account calls by number: {numbers:?}");
+    let mut numbers = [0; 14];
+    for _ in 0..2_000 {
+        numbers[panel(Step::generate(&mut rng)) as usize] += 1;
+    }
+    println!("panel calls by number: {numbers:?}");
+    let found = (0..2_000).filter(|_| survey(Lookup::generate(&mut rng)) == 14).count();
+    println!("survey calls: 2000, of which {found} found a block");
+}

@@ -1,0 +1,101 @@
+//! The worked figures and the example of document 01, one table for every implementation of the account call.
+
+use crate::wire::{self, Batch, Day, Head, Line};
+
+/// The parts of an answer: number, place, row count, totals.
+pub type Parts = (u32, u64, u64, [u64; 3]);
+
+enum States {
+    /// The cells of hour 0.
+    Cells(u32, u32),
+    Refused(u32),
+    /// Method and grams of the only row.
+    Row(u64, u64),
+}
+
+struct Figure {
+    name: &'static str,
+    line: Line,
+    states: States,
+}
+
+const HEAD: Head = Head { stack: 1, pollutant: 2, required: 1, furnace: 1, coal: 4, megawatts: 300, mark: 1, days: 1 };
+/// 1,000,000 kg with sulphur 80 and ash 2,000.
+const BATCH: Batch = Batch { kg: 1_000_000, sulphur: 80, ash: 2_000 };
+
+/// A line of one day.
+fn line(head: Head, day: Day, batches: &[Batch]) -> Line {
+    Line { head, days: vec![day], enforcement: Vec::new(), plant: Vec::new(), batches: batches.to_vec() }
+}
+
+/// A line with one measured hour.
+fn reading(name: &'static str, concentration: f32, flow: f32, states: States) -> Figure {
+    let mut day = Day::stopped(0);
+    day.measure(0, concentration, flow);
+    Figure { name, line: line(HEAD, day, &[]), states }
+}
+
+/// A line of `running` hours, of which the last is missing.
+fn quarter(name: &'static str, running: usize, states: States) -> Figure {
+    let mut day = Day::stopped(0);
+    (0..running).for_each(|hour| day.measure(hour, 10.0, 100.0));
+    day.miss(running - 1);
+    Figure { name, line: line(HEAD, day, &[BATCH]), states }
+}
+
+/// A line whose only running hour is missing, so that fuel speaks.
+fn fuel(name: &'static str, head: Head, batches: &[Batch], states: States) -> Figure {
+    let mut day = Day::stopped(0);
+    day.miss(0);
+    Figure { name, line: line(head, day, batches), states }
+}
+
+fn figures() -> Vec<Figure> {
+    let dioxide = Head { pollutant: 1, ..HEAD };
+    let stronger = Batch { sulphur: 100, ..BATCH };
+    vec![
+        reading("0.125 gives 13", 0.125, 1.0, States::Cells(13, 1)),
+        reading("10000 + 5/1024", 10_000.0 + 5.0 / 1024.0, 1.0, States::Cells(1_000_000, 1)),
+        reading("10000 + 6/1024", 10_000.0 + 6.0 / 1024.0, 1.0, States::Refused(4)),
+        reading("flow 0.5 gives 1", 1.0, 0.5, States::Cells(100, 1)),
+        reading("flow 5,000,000", 1.0, 5_000_000.0, States::Cells(100, 5_000_000)),
+        reading("flow 5,000,000.5", 1.0, 5_000_000.5, States::Refused(4)),
+        reading("minus zero", -0.0, -0.0, States::Cells(0, 0)),
+        quarter("four with one missing", 4, States::Row(1, 4)),
+        quarter("three with one missing", 3, States::Row(4, 8_010_000)),
+        fuel("balance", dioxide, &[BATCH], States::Row(3, 14_184_000)),
+        fuel("balance, two batches", dioxide, &[BATCH, stronger], States::Row(3, 35_460_000)),
+        fuel("oxides", Head { megawatts: 450, ..HEAD }, &[BATCH], States::Row(4, 7_950_000)),
+        fuel("dust", Head { pollutant: 3, ..HEAD }, &[BATCH], States::Row(4, 195_330_000)),
+    ]
+}
+
+/// The example file of document 01.
+pub fn example() -> Vec<u8> {
+    let mut day = Day::stopped(0);
+    day.measure(0, 20.0, 1_000_000.0);
+    day.measure(1, 30.0, 1_000_000.0);
+    day.miss(2);
+    day.measure(3, 41.0, 1_000_001.0);
+    wire::file(&[line(HEAD, day, &[])])
+}
+
+/// Holds an account call against the figures, the example and the empty file.
+pub fn check(account: impl Fn(&[u8], &mut [u64], &mut [u32], &mut [u32]) -> Parts) {
+    let (mut concentration, mut flow) = (vec![7; 2_208], vec![7; 2_208]);
+    for Figure { name, line, states } in figures() {
+        let mut rows = [0; 7];
+        let (number, ..) = account(&wire::file(&[line]), &mut rows, &mut concentration, &mut flow);
+        match states {
+            States::Refused(expected) => assert_eq!(number, expected, "{name}"),
+            States::Cells(c, l) => assert_eq!((number, concentration[0], flow[0]), (0, c, l), "{name}"),
+            States::Row(method, grams) => assert_eq!((number, rows[2], rows[3]), (0, method, grams), "{name}"),
+        }
+    }
+    let mut rows = [0; 7];
+    let answer = account(&example(), &mut rows, &mut concentration, &mut flow);
+    assert_eq!((answer, rows), ((0, 0, 1, [0, 126_500, 0]), [1, 2, 1, 126_500, 4, 1, 3]));
+    assert_eq!((concentration[2], flow[2]), (3_550, 1_000_001));
+    assert_eq!(account(&[], &mut [], &mut concentration, &mut flow), (0, 0, 0, [0; 3]));
+    assert!(concentration.iter().chain(&flow).all(|&cell| cell == 0));
+}

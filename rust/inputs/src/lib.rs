@@ -1,0 +1,27 @@
+//! Inputs for the comparison tests, the valgrind run and the benchmark, all from fixed seeds.
+//!
+//! It knows the record file's shape, and nothing of how an account is computed.
+#![forbid(unsafe_code)]
+
+mod case;
+mod census;
+mod damage;
+mod damage_bytes;
+mod damage_lines;
+mod damage_records;
+pub mod figures;
+mod hours;
+mod panel;
+mod reading;
+mod rng;
+mod sound;
+mod survey;
+pub mod vectors;
+pub mod wire;
+
+pub use case::Case;
+pub use census::{Census, Fill};
+pub use panel::Step;
+pub use rng::Rng;
+pub use sound::{Size, lines as sound_lines};
+pub use survey::Lookup;

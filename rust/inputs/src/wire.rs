@@ -1,0 +1,165 @@
+//! Records as they are written; every field takes any value, so that faulty files can be written too.
+
+#[derive(Clone, Copy, Debug)]
+pub struct Head {
+    pub stack: u16,
+    pub pollutant: u8,
+    pub required: u8,
+    pub furnace: u8,
+    pub coal: u8,
+    pub megawatts: u16,
+    pub mark: u8,
+    pub days: u8,
+}
+
+#[derive(Clone, Copy, Debug)]
+pub struct Day {
+    pub day: u8,
+    pub run: u32,
+    pub measured: u32,
+    pub pairs: [(f32, f32); 24],
+}
+
+#[derive(Clone, Copy, Debug)]
+pub struct Survey {
+    pub hour: u16,
+    pub concentration: f32,
+    pub flow: f32,
+}
+
+#[derive(Clone, Copy, Debug)]
+pub struct Batch {
+    pub kg: u64,
+    pub sulphur: u16,
+    pub ash: u16,
+}
+
+#[derive(Clone, Debug)]
+pub struct Line {
+    pub head: Head,
+    pub days: Vec<Day>,
+    pub enforcement: Vec<Survey>,
+    pub plant: Vec<Survey>,
+    pub batches: Vec<Batch>,
+}
+
+#[derive(Clone, Debug)]
+pub enum Record {
+    Head(Head),
+    Day(Box<Day>),
+    Enforcement(Survey),
+    Plant(Survey),
+    Batch(Batch),
+    End,
+    /// Bytes as they stand, for records of no proper form.
+    Raw(Vec<u8>),
+}
+
+impl Day {
+    /// A day whose hours are all of them stopped.
+    pub fn stopped(day: u8) -> Self {
+        Day { day, run: 0, measured: 0, pairs: [(0.0, 0.0); 24] }
+    }
+
+    /// Marks an hour as measured.
+    pub fn measure(&mut self, hour: usize, concentration: f32, flow: f32) {
+        self.run |= 1 << hour;
+        self.measured |= 1 << hour;
+        self.pairs[hour] = (concentration, flow);
+    }
+
+    /// Marks an hour as missing.
+    pub fn miss(&mut self, hour: usize) {
+        self.run |= 1 << hour;
+        self.measured &= !(1 << hour);
+        self.pairs[hour] = (0.0, 0.0);
+    }
+}
+
+impl Line {
+    pub fn records(&self) -> Vec<Record> {
+        let mut records = vec![Record::Head(self.head)];
+        records.extend(self.days.iter().map(|&day| Record::Day(Box::new(day))));
+        records.extend(self.enforcement.iter().copied().map(Record::Enforcement));
+        records.extend(self.plant.iter().copied().map(Record::Plant));
+        records.extend(self.batches.iter().copied().map(Record::Batch));
+        records.push(Record::End);
+        records
+    }
+}
+
+impl Record {
+    /// The record's bytes after its length, or `None` for raw bytes.
+    fn content(&self) -> Option<Vec<u8>> {
+        Some(match self {
+            Record::Head(head) => head_bytes(head),
+            Record::Day(day) => day_bytes(day),
+            Record::Enforcement(survey) => survey_bytes(3, survey),
+            Record::Plant(survey) => survey_bytes(4, survey),
+            Record::Batch(batch) => batch_bytes(batch),
+            Record::End => 6u16.to_le_bytes().to_vec(),
+            Record::Raw(_) => return None,
+        })
+    }
+
+    pub fn bytes(&self) -> Vec<u8> {
+        match (self.content(), self) {
+            (Some(content), _) => [&(content.len() as u16).to_le_bytes(), content.as_slice()].concat(),
+            (None, Record::Raw(bytes)) => bytes.clone(),
+            (None, _) => Vec::new(),
+        }
+    }
+}
+
+fn head_bytes(head: &Head) -> Vec<u8> {
+    let mut bytes = 1u16.to_le_bytes().to_vec();
+    bytes.extend(head.stack.to_le_bytes());
+    bytes.extend([head.pollutant, head.required, head.furnace, head.coal]);
+    bytes.extend(head.megawatts.to_le_bytes());
+    bytes.extend([head.mark, head.days]);
+    bytes
+}
+
+fn day_bytes(day: &Day) -> Vec<u8> {
+    let mut bytes = Vec::with_capacity(203);
+    bytes.extend(2u16.to_le_bytes());
+    bytes.push(day.day);
+    bytes.extend(day.run.to_le_bytes());
+    bytes.extend(day.measured.to_le_bytes());
+    for (concentration, flow) in day.pairs {
+        bytes.extend(concentration.to_le_bytes());
+        bytes.extend(flow.to_le_bytes());
+    }
+    bytes
+}
+
+fn survey_bytes(kind: u16, survey: &Survey) -> Vec<u8> {
+    let mut bytes = kind.to_le_bytes().to_vec();
+    bytes.extend(survey.hour.to_le_bytes());
+    bytes.extend(survey.concentration.to_le_bytes());
+    bytes.extend(survey.flow.to_le_bytes());
+    bytes
+}
+
+fn batch_bytes(batch: &Batch) -> Vec<u8> {
+    let mut bytes = 5u16.to_le_bytes().to_vec();
+    bytes.extend(batch.kg.to_le_bytes());
+    bytes.extend(batch.sulphur.to_le_bytes());
+    bytes.extend(batch.ash.to_le_bytes());
+    bytes
+}
+
+/// The records of a file, one after another.
+pub fn records(lines: &[Line]) -> Vec<Record> {
+    lines.iter().flat_map(Line::records).collect()
+}
+
+/// The bytes of a file of records.
+pub fn bytes(records: &[Record]) -> Vec<u8> {
+    records.iter().flat_map(Record::bytes).collect()
+}
+
+/// The bytes of a file of lines.
+pub fn file(lines: &[Line]) -> Vec<u8> {
+    bytes(&records(lines))
+}

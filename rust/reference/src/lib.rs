@@ -1,0 +1,26 @@
+//! The quarter account of document 01, written from the document alone.
+//!
+//! It shares no code with the proved library. The comparison tests hold the two against each other, and the benchmark
+//! takes this one as its baseline.
+#![forbid(unsafe_code)]
+
+mod account;
+mod fill;
+mod grams;
+mod hours;
+mod line;
+mod panel;
+mod printed;
+mod reading;
+mod record;
+mod refusal;
+mod survey;
+mod tables;
+
+pub use account::{Answer, account};
+pub use hours::HOURS;
+pub use panel::{Hour, Panel};
+pub use printed::{printed, text};
+pub use reading::{concentration, flow};
+pub use refusal::Refusal;
+pub use survey::governing_survey;
