@@ -1,5 +1,6 @@
 -- `judge::ends::judge_end` meets its contract, by those of its two parts. Assumes nothing.
 use borrow.Author.Needs.{needs}
+use Rattle.judge.proofs.Tests.{first-parts}
 use Rattle.judge.proofs.ends.judge_end.Statement.{statement}
 use Rattle.judge.proofs.ends.judge_end.Tie as tie
 
@@ -13,7 +14,8 @@ first-of-requires : tie.Need-first-of-requires
 first-of-requires c κs = search needs
 
 returns : tie.Need-returns
-returns c = cc
+returns c =
+    first-parts _ _ _ _ _ (c .first-of .ensures) (c .before .before .place-end .ensures) (c .before .judge-fuel .ensures)
 
 pub judge-end-spec : {M : Type 1} → statement M
 judge-end-spec =

@@ -1,5 +1,6 @@
 -- `judge::surveys::judge_plant` meets its contract, by those of its two parts. Assumes nothing.
 use borrow.Author.Needs.{needs}
+use Rattle.judge.proofs.Tests.{first-parts}
 use Rattle.judge.proofs.surveys.judge_plant.Statement.{statement}
 use Rattle.judge.proofs.surveys.judge_plant.Tie as tie
 
@@ -13,7 +14,8 @@ first-of-requires : tie.Need-first-of-requires
 first-of-requires c κs = search needs
 
 returns : tie.Need-returns
-returns c = cc
+returns c =
+    first-parts _ _ _ _ _ (c .first-of .ensures) (c .before .before .place-plant .ensures) (c .before .judge-survey .ensures)
 
 pub judge-plant-spec : {M : Type 1} → statement M
 judge-plant-spec =

@@ -1,7 +1,7 @@
 -- `judge::surveys::judge_survey` meets its contract: each return is where the rule leads by the same test. Assumes nothing.
 use Rattle.law.proofs.Tests.{need-lt}
 use Rattle.rules.specs.Judge.{refuse, judgeSurvey}
-use Rattle.judge.proofs.Tests.{tested}
+use Rattle.judge.proofs.Tests.{tested, first-parts}
 use borrow.Author.Needs.{needs}
 use Rattle.judge.proofs.surveys.judge_survey.Statement.{statement}
 use Rattle.judge.proofs.surveys.judge_survey.Tie as tie
@@ -30,7 +30,7 @@ first-of-requires c κs = search needs
 
 returns-2 : tie.Need-returns-2
 unfolding judgeSurvey
-returns-2 c = need-lt _ _ _ _ _ (c .before .before .before .before .if1 .left) (cc)
+returns-2 c = need-lt _ _ _ _ _ (c .before .before .before .before .if1 .left) (first-parts _ _ _ _ _ (c .first-of .ensures) (c .before .before .judge-pair .ensures) (c .before .judge-stopped .ensures))
 
 pub judge-survey-spec : {M : Type 1} → statement M
 judge-survey-spec =
