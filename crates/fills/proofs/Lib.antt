@@ -9,3 +9,4 @@ pub mod Alone
 pub mod Filled
 pub mod Bounds
 pub mod Only
+pub mod Whole

@@ -2,4 +2,6 @@
 pub mod Bits
 pub mod Days
 pub mod Laws
+pub mod Whole
+pub mod Cells
 pub mod Only

@@ -13,13 +13,15 @@ use Rattle.law.proofs.Halves.{halves-within}
 use mathlib.Core.Bool.{Bool, true, false}
 use borrow.Author.Tests.{eqb-true, eqb-false}
 use Rattle.rules.specs.declared.View.{View}
+use Rattle.rules.specs.Hours.{firstMissing}
+use Rattle.hours.proofs.Whole.{no-missing-table}
+use Rattle.fills.proofs.Whole.{no-gap}
 use Rattle.quarter.specs.declared.books.Sums.{Sums}
-use Rattle.quarter.specs.Taking.{viewMethod, EndReady, EndTaken}
+use Rattle.quarter.specs.Taking.{viewMethod, rowIn, EndReady, EndTaken}
 use Rattle.quarter.specs.declared.take.Taken.{Taken}
 use Rattle.quarter.specs.Books.{patched}
 use Rattle.quarter.specs.Views.{afterEnd}
 use Rattle.rules.specs.Judge.{fine}
-use Rattle.rules.specs.Hours.{firstMissing}
 use Rattle.law.proofs.Tables.{table-length}
 use Rattle.hours.specs.States.{stateAt}
 use Rattle.fills.specs.declared.Weight.{Weight}
@@ -28,7 +30,7 @@ use Rattle.fills.specs.Gaps.{hoursIn, filledCells}
 use Rattle.fills.specs.Weights.{products, weightOf}
 use Rattle.fills.proofs.States.{hours-all}
 use Rattle.fills.proofs.Bounds.{largest-each, filled-most, products-most}
-use Rattle.quarter.specs.Closing.{weightIn, periodStates, FilledLine, Limits, periodWeight, LineGrams, withGrams}
+use Rattle.quarter.specs.Closing.{weightIn, periodStates, Limits, periodWeight, LineGrams, withGrams}
 
 -- the states of the period, as the part of them that is lent
 states-part : (runs measured : List ℕ) (days : ℕ) (cells st : List ℕ) → days ≤ 92 → length cells ≡ 2_208
@@ -39,19 +41,13 @@ states-part runs measured days cells st l e s =
     ap₂ take z (s ∙ ap (λ (k : ℕ). over (stateAt runs measured) k cells) n)
     ∙ take-at (table (stateAt runs measured) (24 * days)) (drop (24 * days) cells) (24 * days) (table-length (stateAt runs measured) (24 * days))
 
-pub line-filled : (runs measured conc flow : List ℕ) (days : ℕ) (cells st conc' flow' : List ℕ) (w : Weight) (r : ℕ) → days ≤ 92 → length cells ≡ 2_208
-    → st ≡ over (stateAt runs measured) (min (24 * days) (length cells)) cells
-    → conc' ≡ filledCells (take (24 * days - 0) (drop 0 st)) conc → flow' ≡ filledCells (take (24 * days - 0) (drop 0 st)) flow
-    → w ≡ weightOf (take (24 * days - 0) (drop 0 conc')) (take (24 * days - 0) (drop 0 flow')) → r ≡ weightIn w
-    → FilledLine runs measured days conc flow conc' flow' r
-line-filled runs measured conc flow days cells st conc' flow' w r l e s c f v q =
-    let z : 24 * days - 0 ≡ 24 * days = omega arith in
-    let p = states-part runs measured days cells st l e s in
-    record {
-      concentrations = c ∙ ap (λ (t : List ℕ). filledCells t conc) p;
-      flows = f ∙ ap (λ (t : List ℕ). filledCells t flow) p;
-      weight = q ∙ ap weightIn (v ∙ ap (λ (k : ℕ). weightOf (take k conc') (take k flow')) z);
-    }
+pub states-are : (runs measured : List ℕ) (days : ℕ) (cells st cs cs' : List ℕ) → days ≤ 92 → length cells ≡ 2_208
+    → st ≡ over (stateAt runs measured) (min (24 * days) (length cells)) cells → cs' ≡ filledCells (take (24 * days - 0) (drop 0 st)) cs
+    → cs' ≡ filledCells (periodStates runs measured days) cs
+states-are runs measured days cells st cs cs' l e s f = f ∙ ap (λ (t : List ℕ). filledCells t cs) (states-part runs measured days cells st l e s)
+
+pub weighed-is : (conc flow : List ℕ) (days : ℕ) (w : Weight) (r : ℕ) → w ≡ weightOf (take (24 * days - 0) (drop 0 conc)) (take (24 * days - 0) (drop 0 flow)) → r ≡ weightIn w → r ≡ periodWeight days conc flow
+weighed-is conc flow days w r e q = let z : 24 * days - 0 ≡ 24 * days = omega arith in q ∙ ap weightIn (e ∙ ap (λ (k : ℕ). weightOf (take k conc) (take k flow)) z)
 
 pub halves-of : (n half : ℕ) → 0 < half → (n + half) / (2 * half) ≡ halvesUp n (2 * half)
 unfolding halvesUp
@@ -64,6 +60,10 @@ halves-of n half p =
 weight-most : (xs ys : List ℕ) → weightIn (weightOf xs ys) ≤ products xs ys
 unfolding weightOf
 weight-most xs ys = need-case (λ (w : Weight). weightIn w ≤ products xs ys) Over (ltb (products xs ys) (2 ^ 64)) (Of (products xs ys)) (λ _. omega arith) (λ _. omega arith)
+
+-- a line that lacks no hour is as if filled
+pub whole-line : (runs measured : List ℕ) (days : ℕ) (cells : List ℕ) → firstMissing runs measured days ≡ 0 → cells ≡ filledCells (periodStates runs measured days) cells
+whole-line runs measured days cells w = sym (no-gap (periodStates runs measured days) cells (λ k l. no-missing-table runs measured days w k))
 
 module _ (runs measured : List ℕ) (days : ℕ) (few : days ≤ 92) where
   states-length : length (periodStates runs measured days) ≡ 24 * days
@@ -86,9 +86,10 @@ module _ (runs measured : List ℕ) (days : ℕ) (few : days ≤ 92) where
       let n : length xs ≤ 2_208 = simp length-take (omega arith) in
       omega (arith, products-most 1_000_000 5_000_000 xs ys (filled-largest 1_000_000 conc c (l .concentrations)) (filled-largest 5_000_000 flow f (l .flows)))
 
-  pub period-most : (conc flow : List ℕ) → length conc ≡ 2_208 → length flow ≡ 2_208 → Limits conc flow
-      → periodWeight days (filledCells (periodStates runs measured days) conc) (filledCells (periodStates runs measured days) flow) ≤ 11_040_000_000_000_000
-  period-most conc flow c f l = omega (arith, weight-most (take (24 * days) (filledCells (periodStates runs measured days) conc)) (take (24 * days) (filledCells (periodStates runs measured days) flow)), period-products conc flow c f l)
+  pub period-most : (conc flow conc' flow' : List ℕ) → length conc ≡ 2_208 → length flow ≡ 2_208 → Limits conc flow
+      → conc' ≡ filledCells (periodStates runs measured days) conc → flow' ≡ filledCells (periodStates runs measured days) flow → periodWeight days conc' flow' ≤ 11_040_000_000_000_000
+  period-most conc flow conc' flow' c f l p q =
+      omega (arith, ap₂ (periodWeight days) p q, weight-most (take (24 * days) (filledCells (periodStates runs measured days) conc)) (take (24 * days) (filledCells (periodStates runs measured days) flow)), period-products conc flow c f l)
 
 -- a share of the grams is at most all of them
 pub share-most : (pollutant own grams r : ℕ) → r ≡ need 0 (eqb pollutant own) grams → r ≤ grams
@@ -102,14 +103,15 @@ halves-most n d m l h =
     let k : 100_000 * halvesUp n d ≤ d * halvesUp n d = mul-le-mul-right (halvesUp n d) l in
     omega (arith, w .1)
 
-module _ (v : View) (s : Sums) (runs measured conc flow out conc' flow' : List ℕ) (g : ℕ) (e : EndReady v s conc flow out) where
-  small-by : (m : ℕ) → m ≡ viewMethod v → LineGrams m v s runs measured conc flow conc' flow' g → (a b : Bool) → eqb m 1 ≡ a → eqb m 2 ≡ b → g ≤ 20_000_000_000_000
+module _ (v : View) (s : Sums) (runs measured conc flow conc' flow' : List ℕ) (g : ℕ) (e : EndReady v s conc flow) where
+  abbrev lineGrams : ℕ → Type 0
+  lineGrams m = LineGrams m v s (periodStates runs measured (v .head .days)) conc flow conc' flow' g
+
+  small-by : (m : ℕ) → m ≡ viewMethod v → lineGrams m → (a b : Bool) → eqb m 1 ≡ a → eqb m 2 ≡ b → g ≤ 20_000_000_000_000
   small-by m q r true b t u =
       let k = r .automatic (eqb-true m 1 t) in
-      let most = period-most runs measured (v .head .days) (e .days) conc flow (e .concLong) (e .flowLong) (e .limits) in
-      let w = k .2 ∙ ap₂ (λ (x y : List ℕ). halvesUp (periodWeight (v .head .days) x y) 100_000) (k .0) (k .1) in
-      let h = halves-most (periodWeight (v .head .days) (filledCells (periodStates runs measured (v .head .days)) conc) (filledCells (periodStates runs measured (v .head .days)) flow)) 100_000 11_040_000_000_000_000 (omega arith) most in
-      omega (arith, w, h)
+      let most = period-most runs measured (v .head .days) (e .days) conc flow conc' flow' (e .concLong) (e .flowLong) (e .limits) (k .concentrations) (k .flows) in
+      omega (arith, k .grams, halves-most (periodWeight (v .head .days) conc' flow') 100_000 11_040_000_000_000_000 (omega arith) most)
   small-by m q r false true t u =
       let z = eqb-true m 2 u in
       let k = r .manual z in
@@ -120,22 +122,20 @@ module _ (v : View) (s : Sums) (runs measured conc flow out conc' flow' : List �
       let k = r .fuel (eqb-false m 1 t) (eqb-false m 2 u) in
       omega (arith, k .2, e .fuel)
 
-  pub line-small : (m : ℕ) → m ≡ viewMethod v → LineGrams m v s runs measured conc flow conc' flow' g → g ≤ 20_000_000_000_000
+  pub line-small : (m : ℕ) → m ≡ viewMethod v → lineGrams m → g ≤ 20_000_000_000_000
   line-small m q r = small-by m q r (eqb m 1) (eqb m 2) refl refl
 
--- ---- the end of a line, put together
-pub end-taken : (v : View) (s : Sums) (runs measured conc flow out conc' flow' out' : List ℕ) (r : Taken) (m g first : ℕ) → EndReady v s conc flow out → m ≡ viewMethod v
-    → LineGrams m v s runs measured conc flow conc' flow' g → first ≡ firstMissing runs measured (v .head .days)
-    → out' ≡ patched (λ k. getD (v .head .stack ∷ v .head .pollutant ∷ m ∷ g ∷ v .running ∷ v .missing ∷ first ∷ []) k 0) 7 (7 * v .lines) out
-    → r .fault ≡ fine → r .view ≡ afterEnd v → r .sums ≡ withGrams s (v .head .pollutant) g
-    → EndTaken v s runs measured conc flow out conc' flow' out' r
-end-taken v s runs measured conc flow out conc' flow' out' r m g first e q l f o a b c =
-    record {
-      grams = g;
-      small = line-small v s runs measured conc flow out conc' flow' g e m q l;
-      figures = subst (λ (k : ℕ). LineGrams k v s runs measured conc flow conc' flow' g) q l;
-      faults = a;
-      view = b;
-      sums = c;
-      outNow = o ∙ ap₂ (λ (k n : ℕ). patched (λ i. getD (v .head .stack ∷ v .head .pollutant ∷ k ∷ g ∷ v .running ∷ v .missing ∷ n ∷ []) i 0) 7 (7 * v .lines) out) q f;
-    }
+  -- ---- the end of a line, put together
+  pub end-taken : (out out' : List ℕ) (r : Taken) (m first : ℕ) → m ≡ viewMethod v → lineGrams m → out' ≡ patched (λ k. getD (rowIn v m g first) k 0) 7 (7 * v .lines) out
+      → r .fault ≡ fine → r .view ≡ afterEnd v → r .sums ≡ withGrams s (v .head .pollutant) g
+      → EndTaken v s (periodStates runs measured (v .head .days)) first conc flow out conc' flow' out' r
+  end-taken out out' r m first q l o a b c =
+      record {
+        grams = g;
+        small = line-small m q l;
+        figures = subst lineGrams q l;
+        faults = a;
+        view = b;
+        sums = c;
+        outNow = o ∙ ap (λ (k : ℕ). patched (λ i. getD (rowIn v k g first) i 0) 7 (7 * v .lines) out) q;
+      }

@@ -1,12 +1,12 @@
 -- The end of a line: its grams, its row and its cells are those of the rules. Assumes nothing.
 use mathlib.Core.Path.{_≡_, refl, _∙_, sym, ap, ap₂, subst}
 use mathlib.Core.Bool.{Bool, true, false}
-use mathlib.Core.List.{List, [], _∷_, _++_, append-assoc}
+use mathlib.Core.List.{List, [], _∷_, _++_, map, append-assoc}
 use Prim.Native.Nat.{ℕ, suc, _+_, _-_, _*_, _^_, _<_, _≤_}
 use native.Mathlib.Omega.{arith}
 use native.Mathlib.Nat.{lt-of-le-of-lt}
 use native.Mathlib.Decide.{decLt}
-use lib.ListN.{length, take, drop, getD, length-append, length-take, length-drop, List·getD-eq-default}
+use lib.ListN.{length, take, drop, getD, length-append, length-map, length-take, length-drop, List·getD-eq-default}
 use lib.Seq.{take-at}
 use lib.Dec.{eqb, lit<}
 use borrow.Author.Tests.{eqb-true, eqb-false, eq-eqb, ne-eqb}
@@ -35,9 +35,10 @@ use Rattle.quarter.specs.declared.take.Taken.{Taken}
 use Rattle.quarter.specs.Views.{afterEnd}
 use Rattle.quarter.specs.Books.{patched, valuesAt, Bounded, LineBooks, Kept}
 use Rattle.quarter.specs.Closing.{weightIn, gramsIn, periodStates, periodWeight, Limits, LineGrams, withGrams}
-use Rattle.quarter.specs.Taking.{viewMethod, EndReady, EndTaken}
+use Rattle.quarter.specs.Taking.{viewMethod, rowIn, EndTaken}
 use Rattle.quarter.proofs.Views.{survey-count, view-end}
-use Rattle.quarter.proofs.Filled.{unfilled-concentrations, unfilled-flows, filled-concentrations, filled-flows, held-cells}
+use Rattle.quarter.proofs.Filled.{unfilled-concentrations, unfilled-flows, filled-concentrations, filled-flows, held-length, held-cells}
+use Rattle.quarter.proofs.Cleared.{cells-past}
 use Rattle.quarter.proofs.Closed.{period-products, share-most}
 use Rattle.quarter.proofs.Standing.{patched-length}
 use Rattle.quarter.proofs.Steps.{surveyed-most}
@@ -92,12 +93,34 @@ held-plain : (x : Line) → eqb (method x) 1 ≡ false → held x ≡ hourly unf
 unfolding held pick
 held-plain x t = rw t
 
+-- ---- the row goes behind the rows
+seven : (a b c d e f g : ℕ) → table (λ i. getD (a ∷ b ∷ c ∷ d ∷ e ∷ f ∷ g ∷ []) i 0) 7 ≡ a ∷ b ∷ c ∷ d ∷ e ∷ f ∷ g ∷ []
+unfolding table
+seven a b c d e f g = refl
+
+row-same : (a b c d e f g a' b' c' d' e' f' g' : ℕ) → a ≡ a' → b ≡ b' → c ≡ c' → d ≡ d' → e ≡ e' → f ≡ f' → g ≡ g'
+    → a ∷ b ∷ c ∷ d ∷ e ∷ f ∷ g ∷ [] ≡ a' ∷ b' ∷ c' ∷ d' ∷ e' ∷ f' ∷ g' ∷ []
+row-same a b c d e f g a' b' c' d' e' f' g' i j k l m n o = cc
+
+row-behind : (n : ℕ) (row rows out out' : List ℕ) (w : ℕ → ℕ) → n + 7 ≤ length out → take n out ≡ rows → table w 7 ≡ row → out' ≡ patched w 7 n out → take (n + 7) out' ≡ rows ++ row
+row-behind n row rows out out' w l r e o =
+    let front : length (take n out ++ table w 7) ≡ n + 7 = simp (length-append, length-take) (omega (arith, table-length w 7)) in
+    ap (take (n + 7)) (o ∙ sym (append-assoc (take n out) (table w 7) (drop 7 (drop n out))))
+    ∙ take-at (take n out ++ table w 7) (drop 7 (drop n out)) (n + 7) front
+    ∙ ap₂ (λ (s t : List ℕ). s ++ t) r e
+
 module _ (x : Line) (done : List Line) (v : View) (s : Sums) (runs measured flags conc flow out : List ℕ)
     (k : Kept (Inside x done) v s runs measured flags conc flow out) (all-days : length (x .days) ≡ x .head .days)
     (entry : (method x ≡ 1 → ⊥) → (method x ≡ 2 → ⊥) → coefficientsOf (x .head) ≡ NoEntry → ⊥)
   where
     b : Bounded x
     b = k .books .bounded
+
+    abbrev lineStates : List ℕ
+    lineStates = periodStates (runMasks (x .days)) (measuredMasks (x .days)) (v .head .days)
+
+    abbrev lineFirst : ℕ
+    lineFirst = firstMissing (runMasks (x .days)) (measuredMasks (x .days)) (v .head .days)
 
     v-head : v .head ≡ x .head
     unfolding viewOf
@@ -128,18 +151,18 @@ module _ (x : Line) (done : List Line) (v : View) (s : Sums) (runs measured flag
     fuel-figure : fuelFigure (v .head) (v .fuel) (s .sulphur) (s .ash) ≡ fuelFigure (x .head) (fuel (x .batches)) (sulphurOf (x .batches)) (ashOf (x .batches))
     fuel-figure = rw (v-head, v-fuel, k .books .sulphurKept, k .books .ashKept)
 
-    module _ (conc' flow' : List ℕ) (g : ℕ) (l : LineGrams (viewMethod v) v s (runMasks (x .days)) (measuredMasks (x .days)) conc flow conc' flow' g) where
+    module _ (conc' flow' : List ℕ) (g : ℕ) (l : LineGrams (viewMethod v) v s lineStates conc flow conc' flow' g) where
       closes-by : (p q : Bool) → eqb (method x) 1 ≡ p → eqb (method x) 2 ≡ q → Closes x conc' flow' g
       unfolding automatic manual
       closes-by true q t u =
           let z = eqb-true (method x) 1 t in
           let f = l .automatic (v-method ∙ z) in
           let state : ℕ → List ℕ = λ n. periodStates (runMasks (x .days)) (measuredMasks (x .days)) n in
-          let c : conc' ≡ filledCells (state (length (x .days))) (table (λ h. valuesAt x h .c) 2_208) = f .0 ∙ ap₂ (λ (n : ℕ) (t : List ℕ). filledCells (state n) t) v-days (k .books .concKept) in
-          let d : flow' ≡ filledCells (state (length (x .days))) (table (λ h. valuesAt x h .l) 2_208) = f .1 ∙ ap₂ (λ (n : ℕ) (t : List ℕ). filledCells (state n) t) v-days (k .books .flowKept) in
+          let c : conc' ≡ filledCells (state (length (x .days))) (table (λ h. valuesAt x h .c) 2_208) = f .concentrations ∙ ap₂ (λ (n : ℕ) (t : List ℕ). filledCells (state n) t) v-days (k .books .concKept) in
+          let d : flow' ≡ filledCells (state (length (x .days))) (table (λ h. valuesAt x h .l) 2_208) = f .flows ∙ ap₂ (λ (n : ℕ) (t : List ℕ). filledCells (state n) t) v-days (k .books .flowKept) in
           record {
             figure =
-                f .2 ∙ ap (λ (n : ℕ). halvesUp (periodWeight n conc' flow') 100_000) v-days
+                f .grams ∙ ap (λ (n : ℕ). halvesUp (periodWeight n conc' flow') 100_000) v-days
                 ∙ ap₂ (λ (i j : List ℕ). halvesUp (periodWeight (length (x .days)) i j) 100_000) c d
                 ∙ ap (λ (n : ℕ). halvesUp n 100_000) (weighed x b all-days) ∙ sym (grams-automatic x z);
             concentrations = c ∙ filled-concentrations x (few x b all-days) .1 ∙ ap (λ (w : List Values). cells (cs w)) (sym (held-filled x t));
@@ -162,79 +185,63 @@ module _ (x : Line) (done : List Line) (v : View) (s : Sums) (runs measured flag
             flows = f .1 ∙ k .books .flowKept ∙ unfilled-flows x (few x b all-days) ∙ ap (λ (w : List Values). cells (ls w)) (sym (held-plain x t));
           }
 
-      pub closes : Closes x conc' flow' g
+      closes : Closes x conc' flow' g
       closes = closes-by (eqb (method x) 1) (eqb (method x) 2) refl refl
 
--- ---- the row goes behind the rows
-seven : (a b c d e f g : ℕ) → table (λ i. getD (a ∷ b ∷ c ∷ d ∷ e ∷ f ∷ g ∷ []) i 0) 7 ≡ a ∷ b ∷ c ∷ d ∷ e ∷ f ∷ g ∷ []
-unfolding table
-seven a b c d e f g = refl
+    module _ (conc' flow' out' : List ℕ) (r : Taken) (e : EndTaken v s lineStates lineFirst conc flow out conc' flow' out' r) where
+      shut : Closes x conc' flow' (e .grams)
+      shut = closes conc' flow' (e .grams) (e .figures)
 
-row-same : (a b c d e f g a' b' c' d' e' f' g' : ℕ) → a ≡ a' → b ≡ b' → c ≡ c' → d ≡ d' → e ≡ e' → f ≡ f' → g ≡ g'
-    → a ∷ b ∷ c ∷ d ∷ e ∷ f ∷ g ∷ [] ≡ a' ∷ b' ∷ c' ∷ d' ∷ e' ∷ f' ∷ g' ∷ []
-row-same a b c d e f g a' b' c' d' e' f' g' i j k l m n o = cc
+      row-is : rowIn v (viewMethod v) (e .grams) lineFirst ≡ rowOf x
+      unfolding rowOf
+      row-is =
+          row-same _ _ _ _ _ _ _ _ _ _ _ _ _ _ (ap (λ (h : Head). h .stack) v-head) (ap (λ (h : Head). h .pollutant) v-head)
+          v-method (shut .figure) v-running v-missing (ap (firstMissing (runMasks (x .days)) (measuredMasks (x .days))) v-days)
 
-row-behind : (n : ℕ) (row rows out out' : List ℕ) (w : ℕ → ℕ) → n + 7 ≤ length out → take n out ≡ rows → table w 7 ≡ row → out' ≡ patched w 7 n out → take (n + 7) out' ≡ rows ++ row
-row-behind n row rows out out' w l r e o =
-    let front : length (take n out ++ table w 7) ≡ n + 7 = simp (length-append, length-take) (omega (arith, table-length w 7)) in
-    ap (take (n + 7)) (o ∙ sym (append-assoc (take n out) (table w 7) (drop 7 (drop n out))))
-    ∙ take-at (take n out ++ table w 7) (drop 7 (drop n out)) (n + 7) front
-    ∙ ap₂ (λ (s t : List ℕ). s ++ t) r e
+      rows-now : take (7 * suc (length done)) out' ≡ rowsOf done ++ rowOf x
+      rows-now =
+          let n : 7 * suc (length done) ≡ 7 * length done + 7 = omega arith in
+          let w : ℕ → ℕ = λ i. getD (rowIn v (viewMethod v) (e .grams) lineFirst) i 0 in
+          ap (λ (i : ℕ). take i out') n
+          ∙ row-behind (7 * length done) (rowOf x) (rowsOf done) out out' w (omega (arith, k .lines, k .outLong)) (k .rows) (seven _ _ _ _ _ _ _ ∙ row-is)
+          (e .outNow ∙ ap (λ (i : ℕ). patched w 7 (7 * i) out) v-lines)
 
-module _ (x : Line) (done : List Line) (v : View) (s : Sums) (runs measured flags conc flow out : List ℕ)
-    (k : Kept (Inside x done) v s runs measured flags conc flow out) (all-days : length (x .days) ≡ x .head .days)
-    (entry : (method x ≡ 1 → ⊥) → (method x ≡ 2 → ⊥) → coefficientsOf (x .head) ≡ NoEntry → ⊥)
-    (conc' flow' out' : List ℕ) (r : Taken) (e : EndTaken v s (runMasks (x .days)) (measuredMasks (x .days)) conc flow out conc' flow' out' r)
-  where
-    shut : Closes x conc' flow' (e .grams)
-    shut = closes x done v s runs measured flags conc flow out k all-days entry conc' flow' (e .grams) (e .figures)
+      total-now : (p t : ℕ) → t ≡ totalOf p done → need 0 (eqb (v .head .pollutant) p) (e .grams) + t ≡ totalOf p (x ∷ done)
+      unfolding totalOf sumOf
+      total-now p t q = ap₂ (λ (i : ℕ) (j : ℕ). need 0 (eqb i p) j + t) (ap (λ (h : Head). h .pollutant) v-head) (shut .figure) ∙ ap (λ (i : ℕ). need 0 (eqb (x .head .pollutant) p) (grams x) + i) q
 
-    is-head : v .head ≡ x .head
-    is-head = v-head x done v s runs measured flags conc flow out k all-days entry
+      total-most : (p t : ℕ) → t ≤ length done * 20_000_000_000_000 → need 0 (eqb (v .head .pollutant) p) (e .grams) + t ≤ suc (length done) * 20_000_000_000_000
+      total-most p t l = omega (arith, share-most (v .head .pollutant) p (e .grams) (need 0 (eqb (v .head .pollutant) p) (e .grams)) refl, e .small)
 
-    row-is : v .head .stack ∷ v .head .pollutant ∷ viewMethod v ∷ e .grams ∷ v .running ∷ v .missing ∷ firstMissing (runMasks (x .days)) (measuredMasks (x .days)) (v .head .days) ∷ [] ≡ rowOf x
-    unfolding rowOf
-    row-is =
-        row-same _ _ _ _ _ _ _ _ _ _ _ _ _ _ (ap (λ (h : Head). h .stack) is-head) (ap (λ (h : Head). h .pollutant) is-head)
-        (v-method x done v s runs measured flags conc flow out k all-days entry) (shut .figure) (v-running x done v s runs measured flags conc flow out k all-days entry)
-        (v-missing x done v s runs measured flags conc flow out k all-days entry)
-        (ap (firstMissing (runMasks (x .days)) (measuredMasks (x .days))) (v-days x done v s runs measured flags conc flow out k all-days entry))
-
-    rows-now : take (7 * suc (length done)) out' ≡ rowsOf done ++ rowOf x
-    rows-now =
-        let n : 7 * suc (length done) ≡ 7 * length done + 7 = omega arith in
-        let w : ℕ → ℕ = λ i. getD (v .head .stack ∷ v .head .pollutant ∷ viewMethod v ∷ e .grams ∷ v .running ∷ v .missing ∷ firstMissing (runMasks (x .days)) (measuredMasks (x .days)) (v .head .days) ∷ []) i 0 in
-        ap (λ (i : ℕ). take i out') n
-        ∙ row-behind (7 * length done) (rowOf x) (rowsOf done) out out' w (omega (arith, k .lines, k .outLong)) (k .rows) (seven _ _ _ _ _ _ _ ∙ row-is)
-        (e .outNow ∙ ap (λ (i : ℕ). patched w 7 (7 * i) out) (v-lines x done v s runs measured flags conc flow out k all-days entry))
-
-    total-now : (p t : ℕ) → t ≡ totalOf p done → need 0 (eqb (v .head .pollutant) p) (e .grams) + t ≡ totalOf p (x ∷ done)
-    unfolding totalOf sumOf
-    total-now p t q = ap₂ (λ (i : ℕ) (j : ℕ). need 0 (eqb i p) j + t) (ap (λ (h : Head). h .pollutant) is-head) (shut .figure) ∙ ap (λ (i : ℕ). need 0 (eqb (x .head .pollutant) p) (grams x) + i) q
-
-    total-most : (p t : ℕ) → t ≤ length done * 20_000_000_000_000 → need 0 (eqb (v .head .pollutant) p) (e .grams) + t ≤ suc (length done) * 20_000_000_000_000
-    total-most p t l = omega (arith, share-most (v .head .pollutant) p (e .grams) (need 0 (eqb (v .head .pollutant) p) (e .grams)) refl, e .small)
-
-    pub kept-end : Kept (Between (x ∷ done)) (r .view) (r .sums) runs measured flags conc' flow' out'
-    unfolding rowsOf concentrationCells flowCells cs ls
-    kept-end =
-        let c = shut .concentrations in
-        let l = shut .flows in
-        record {
-          view = e .view ∙ ap afterEnd (k .view) ∙ view-end x done;
-          lines = omega (arith, k .lines);
-          rows = rows-now;
-          total1 = ap (λ (u : Sums). u .total1) (e .sums) ∙ total-now 1 (s .total1) (k .total1);
-          total2 = ap (λ (u : Sums). u .total2) (e .sums) ∙ total-now 2 (s .total2) (k .total2);
-          total3 = ap (λ (u : Sums). u .total3) (e .sums) ∙ total-now 3 (s .total3) (k .total3);
-          most1 = omega (arith, ap (λ (u : Sums). u .total1) (e .sums), total-most 1 (s .total1) (k .most1));
-          most2 = omega (arith, ap (λ (u : Sums). u .total2) (e .sums), total-most 2 (s .total2) (k .most2));
-          most3 = omega (arith, ap (λ (u : Sums). u .total3) (e .sums), total-most 3 (s .total3) (k .most3));
-          runsLong = k .runsLong;
-          measuredLong = k .measuredLong;
-          flagsLong = k .flagsLong;
-          concLong = ap length c ∙ held-cells x (λ w. w .c) (few x (k .books .bounded) all-days);
-          flowLong = ap length l ∙ held-cells x (λ w. w .l) (few x (k .books .bounded) all-days);
-          outLong = ap length (e .outNow) ∙ patched-length _ 7 (7 * v .lines) out (omega (arith, v-lines x done v s runs measured flags conc flow out k all-days entry, k .lines, k .outLong)) ∙ k .outLong;
-          books = record { concHeld = c; flowHeld = l };
-        }
+      pub kept-end : Kept (Between (x ∷ done)) (r .view) (r .sums) runs measured flags conc' flow' out'
+      unfolding rowsOf concentrationCells flowCells cs ls
+      kept-end =
+          let c = shut .concentrations in
+          let l = shut .flows in
+          let used : r .sums .used ≡ 24 * x .head .days = ap (λ (u : Sums). u .used) (e .sums) ∙ k .books .usedKept in
+          record {
+            view = e .view ∙ ap afterEnd (k .view) ∙ view-end x done;
+            lines = omega (arith, k .lines);
+            rows = rows-now;
+            total1 = ap (λ (u : Sums). u .total1) (e .sums) ∙ total-now 1 (s .total1) (k .total1);
+            total2 = ap (λ (u : Sums). u .total2) (e .sums) ∙ total-now 2 (s .total2) (k .total2);
+            total3 = ap (λ (u : Sums). u .total3) (e .sums) ∙ total-now 3 (s .total3) (k .total3);
+            most1 = omega (arith, ap (λ (u : Sums). u .total1) (e .sums), total-most 1 (s .total1) (k .most1));
+            most2 = omega (arith, ap (λ (u : Sums). u .total2) (e .sums), total-most 2 (s .total2) (k .most2));
+            most3 = omega (arith, ap (λ (u : Sums). u .total3) (e .sums), total-most 3 (s .total3) (k .most3));
+            runsLong = k .runsLong;
+            measuredLong = k .measuredLong;
+            flagsLong = k .flagsLong;
+            concLong = ap length c ∙ held-cells x (λ w. w .c) (few x (k .books .bounded) all-days);
+            flowLong = ap length l ∙ held-cells x (λ w. w .l) (few x (k .books .bounded) all-days);
+            outLong = ap length (e .outNow) ∙ patched-length _ 7 (7 * v .lines) out (omega (arith, v-lines, k .lines, k .outLong)) ∙ k .outLong;
+            books =
+                record {
+                  concHeld = c;
+                  flowHeld = l;
+                  usedMost = omega (arith, used, k .books .bounded .period);
+                  flagsPast = λ h m. k .books .flagsPast h (omega (arith, used, m));
+                  concPast = λ h m. ap (λ (t : List ℕ). getD t h 0) c ∙ cells-past (map (λ w. w .c) (held x)) (r .sums .used) h (omega (arith, used, k .books .bounded .days, length-map (held x) (λ w. w .c), held-length x)) m;
+                  flowPast = λ h m. ap (λ (t : List ℕ). getD t h 0) l ∙ cells-past (map (λ w. w .l) (held x)) (r .sums .used) h (omega (arith, used, k .books .bounded .days, length-map (held x) (λ w. w .l), held-length x)) m;
+                };
+          }

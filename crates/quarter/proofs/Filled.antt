@@ -211,8 +211,11 @@ pub hourly-length : (x : Line) (rule : ℕ → List Values → List Values → V
 unfolding hourly
 hourly-length x rule = entries-length (λ v. v) rule zeroes [] (slots x) ∙ slots-long x
 
+pub held-length : (x : Line) → length (held x) ≡ 24 * length (x .days)
+unfolding held
+held-length x =
+    pick-case (λ (t : List Values). length t ≡ 24 * length (x .days)) (eqb (method x) 1) (hourly filled x) (hourly unfilled x) (λ _. hourly-length x filled) (λ _. hourly-length x unfilled)
+
 pub held-cells : (x : Line) (f : Values → ℕ) → length (x .days) ≤ 92 → length (cells (map f (held x))) ≡ 2_208
-unfolding cells held
-held-cells x f l =
-    let n : length (held x) ≡ 24 * length (x .days) = pick-case (λ (t : List Values). length t ≡ 24 * length (x .days)) (eqb (method x) 1) (hourly filled x) (hourly unfilled x) (λ _. hourly-length x filled) (λ _. hourly-length x unfilled) in
-    simp (length-append, length-replicate) (omega (arith, length-map (held x) f))
+unfolding cells
+held-cells x f l = simp (length-append, length-replicate) (omega (arith, length-map (held x) f, held-length x))

@@ -7,7 +7,7 @@ use native.Mathlib.Omega.{arith}
 use lib.ListN.{length, take, drop, replicate, getD, length-drop, length-replicate, getD-replicate}
 use lib.Seq.{take-all}
 use lib.Dec.{eqb, ltb, lit<}
-use borrow.Author.Tests.{lt-ltb, le-ltb, eq-eqb, ne-eqb}
+use borrow.Author.Tests.{lt-ltb, le-ltb, eq-eqb, ne-eqb, eqb-true, eqb-false}
 use Rattle.law.specs.Words.{need, pick, sumOf, table}
 use Rattle.law.proofs.Tables.{table-is, table-length}
 use Rattle.rules.specs.declared.Fault.{Fault}
@@ -15,7 +15,7 @@ use Rattle.rules.specs.declared.View.{View}
 use Rattle.rules.specs.Records.{Bad, IsHead, IsDay, IsEnforcement, IsPlant, IsBatch, IsEnd, Placed, dayOf, recordIn, sizeOf, upTo, recordsFrom, recordsOf}
 use Rattle.rules.specs.Records as rules
 use Rattle.rules.specs.Lines.{Line}
-use Rattle.rules.specs.Judge.{refuse, fine, judge, judgeHours}
+use Rattle.rules.specs.Judge.{refuse, fine, first, judge, judgeHours}
 use Rattle.rules.specs.Row.{rowsOf, totalOf, cells, concentrationCells, flowCells}
 use Rattle.rules.specs.Walk.{Stand, Between, Inside, noHead, viewOf, runsOf, taken, ended, faultOf, walk, Outcome, Refused, Accepted, outcome}
 use Rattle.record.specs.declared.Record.{Record}
@@ -27,10 +27,12 @@ use Rattle.judge.specs.Flat.{judgeFlat}
 use Rattle.judge.proofs.Laws.{NoDay, flat-stands, judge-refused, judge-passed, judge-other}
 use Rattle.quarter.specs.declared.books.Sums.{Sums}
 use Rattle.quarter.specs.declared.take.Taken.{Taken}
+use Rattle.quarter.specs.declared.walk.Progress.{Progress}
 use Rattle.quarter.specs.declared.walk.Walked.{Walked}
-use Rattle.quarter.specs.Views.{openedView, noSums, walkedOf}
+use Rattle.quarter.specs.Views.{atStart, refusedAt, movedOn, walkedOf}
 use Rattle.quarter.specs.Books.{Kept}
-use Rattle.quarter.specs.Walking.{whole, laterFault, Ready, SomeReady, Took, Ended, WalkPromise}
+use Rattle.quarter.specs.Walking.{whole, laterFault, Ready, SomeReady, Took, Going, Reached, Ended, WalkPromise}
+use Rattle.quarter.proofs.Cleared.{replicate-zero, cells-past}
 use Rattle.quarter.proofs.Views.{view-start}
 use Rattle.quarter.proofs.Takes.{whole-is, stands-zero}
 
@@ -74,60 +76,53 @@ module _ (file : List ℕ) (at : ℕ) (stand : Stand) where
   walk-ended zero h = refl
   walk-ended (suc f) h = rw (le-ltb at (length file) h)
 
--- ---- the loop
-pub record Going (file out conc flow runs measured flags : List ℕ) (v : View) (s : Sums) (at : ℕ) : Type 0 where
-  pub stand : Stand
-  pub most : ℕ
-  pub kept : Kept stand v s runs measured flags conc flow out
-  pub within : at ≤ length file
-  pub enough : length file ≤ at + most
-  pub rest : walk file (recordsFrom most file at) stand ≡ outcome file
-
+-- ---- the loop begins
 pub zeros : (n : ℕ) → table {A = ℕ} (λ h. 0) n ≡ replicate n 0
 zeros n = sym (table-is (λ h. 0) n 0 (replicate n 0) (length-replicate n 0) (λ k l. getD-replicate n k 0 0 l))
 
-pub going-start : (file out conc flow runs measured flags conc₀ flow₀ : List ℕ) (v : View) (s : Sums) → length out ≡ 336 → length conc₀ ≡ 2_208 → length flow₀ ≡ 2_208
-    → length runs ≡ 92 → length measured ≡ 92 → length flags ≡ 2_208 → conc ≡ table (λ h. 0) (length conc₀) → flow ≡ table (λ h. 0) (length flow₀)
-    → v ≡ openedView false 0 0 noHead → s ≡ noSums → Going file out conc flow runs measured flags v s 0
-unfolding outcome recordsOf rowsOf totalOf sumOf concentrationCells flowCells cells
-going-start file out conc flow runs measured flags conc₀ flow₀ v s o cl fl rl ml gl c f e q =
-    let c' : conc ≡ table (λ h. 0) 2_208 = c ∙ ap (table (λ h. 0)) cl in
-    let f' : flow ≡ table (λ h. 0) 2_208 = f ∙ ap (table (λ h. 0)) fl in
+pub reached-start : (file runs measured flags conc flow out : List ℕ) (p : Progress) → length runs ≡ 92 → length measured ≡ 92 → flags ≡ replicate 2_208 0 → length out ≡ 336
+    → conc ≡ table (λ h. 0) 2_208 → flow ≡ table (λ h. 0) 2_208 → p ≡ atStart → Reached file p runs measured flags conc flow out
+unfolding fine outcome recordsOf rowsOf totalOf sumOf concentrationCells flowCells cells
+reached-start file runs measured flags conc flow out p rl ml g ol c f q =
+    let kept : Kept (Between []) (atStart .view) (atStart .sums) runs measured flags conc flow out =
     record {
-      stand = Between [];
-      most = length file;
-      kept =
+      view = view-start;
+      lines = omega arith;
+      rows = refl;
+      total1 = refl;
+      total2 = refl;
+      total3 = refl;
+      most1 = omega arith;
+      most2 = omega arith;
+      most3 = omega arith;
+      runsLong = rl;
+      measuredLong = ml;
+      flagsLong = ap length g ∙ length-replicate {A = ℕ} 2_208 0;
+      concLong = ap length c ∙ table-length (λ h. 0) 2_208;
+      flowLong = ap length f ∙ table-length (λ h. 0) 2_208;
+      outLong = ol;
+      books =
           record {
-            view = e ∙ view-start;
-            lines = omega arith;
-            rows = refl;
-            total1 = ap (λ (u : Sums). u .total1) q;
-            total2 = ap (λ (u : Sums). u .total2) q;
-            total3 = ap (λ (u : Sums). u .total3) q;
-            most1 = omega (arith, ap (λ (u : Sums). u .total1) q);
-            most2 = omega (arith, ap (λ (u : Sums). u .total2) q);
-            most3 = omega (arith, ap (λ (u : Sums). u .total3) q);
-            runsLong = rl;
-            measuredLong = ml;
-            flagsLong = gl;
-            concLong = ap length c' ∙ table-length (λ h. 0) 2_208;
-            flowLong = ap length f' ∙ table-length (λ h. 0) 2_208;
-            outLong = o;
-            books = record { concHeld = c' ∙ zeros 2_208; flowHeld = f' ∙ zeros 2_208 };
+            concHeld = c ∙ zeros 2_208;
+            flowHeld = f ∙ zeros 2_208;
+            usedMost = omega arith;
+            flagsPast = λ h l. ap (λ (t : List ℕ). getD t h 0) g ∙ replicate-zero 2_208 h;
+            concPast = λ h l. ap (λ (t : List ℕ). getD t h 0) (c ∙ zeros 2_208) ∙ cells-past [] 0 h (omega arith) l;
+            flowPast = λ h l. ap (λ (t : List ℕ). getD t h 0) (f ∙ zeros 2_208) ∙ cells-past [] 0 h (omega arith) l;
           };
-      within = omega arith;
-      enough = omega arith;
-      rest = refl;
-    }
+    } in
+    rw q (record {
+      refuses = λ n. absurd (n refl);
+      reads = λ _. refl;
+      goes = λ _. record { stand = Between []; most = length file; kept = kept; within = omega arith; enough = omega arith; rest = refl };
+    })
 
+-- ---- a record is judged
 -- the run masks that are lent to the judge, and the bytes of the record
-lent-stand : (stand : Stand) (v : View) (s : Sums) (runs measured flags conc flow out : List ℕ) (d : ℕ) → Kept stand v s runs measured flags conc flow out → d ≡ v .days
-    → take (d - 0) (drop 0 runs) ≡ runsOf stand
+lent-stand : (stand : Stand) (v : View) (s : Sums) (runs measured flags conc flow out : List ℕ) → Kept stand v s runs measured flags conc flow out → take (v .days) runs ≡ runsOf stand
 unfolding viewOf runsOf
-lent-stand (Between done) v s runs measured flags conc flow out d k e =
-    let n : d - 0 ≡ 0 = omega (arith, ap (λ (w : View). w .days) (k .view)) in ap (λ (i : ℕ). take i runs) n
-lent-stand (Inside x done) v s runs measured flags conc flow out d k e =
-    let n : d - 0 ≡ length (x .days) = omega (arith, ap (λ (w : View). w .days) (k .view)) in ap (λ (i : ℕ). take i runs) n ∙ k .books .runsKept
+lent-stand (Between done) v s runs measured flags conc flow out k = ap (λ (w : View). take (w .days) runs) (k .view)
+lent-stand (Inside x done) v s runs measured flags conc flow out k = ap (λ (w : View). take (w .days) runs) (k .view) ∙ k .books .runsKept
 
 lent-bytes : (file : List ℕ) (at : ℕ) → take (length file - at) (drop at file) ≡ drop at file
 lent-bytes file at = take-all (length file - at) (drop at file) (let l : length (drop at file) ≤ length file - at = omega (arith, length-drop at file) in l)
@@ -144,13 +139,16 @@ later-judge at bytes v runs (OfPlant t) f e j z = sym z ∙ judge-other at v run
 later-judge at bytes v runs (OfBatch b) f e j z = sym z ∙ judge-other at v runs (recordIn bytes) (OfBatch b) f e tt j
 later-judge at bytes v runs OfEnd f e j z = sym z ∙ judge-other at v runs (recordIn bytes) OfEnd f e tt j
 
-module _ (file out conc flow runs measured flags : List ℕ) (v : View) (s : Sums) (at : ℕ) (g : Going file out conc flow runs measured flags v s at) (more : at < length file) where
+module _ (file : List ℕ) (v : View) (s : Sums) (at : ℕ) (runs measured flags conc flow out : List ℕ) (g : Going file v s at runs measured flags conc flow out) (more : at < length file) where
   abbrev bytes : List ℕ
   bytes = take (length file - at) (drop at file)
 
-  module _ (r : Record) (read : r ≡ flat (recordIn bytes)) (d : ℕ) (days : d ≡ v .days) (f : Fault) (judged : f ≡ judgeFlat at v (take (d - 0) (drop 0 runs)) r) where
+  abbrev here : rules.Record
+  here = next file at (g .stand)
+
+  module _ (r : Record) (read : r ≡ flat (recordIn bytes)) (f : Fault) (judged : f ≡ judgeFlat at v (take (v .days) runs) r) where
     judged-here : f ≡ judgeFlat at v (runsOf (g .stand)) r
-    judged-here = judged ∙ ap (λ (l : List ℕ). judgeFlat at v l r) (lent-stand (g .stand) v s runs measured flags conc flow out d (g .kept) days)
+    judged-here = judged ∙ ap (λ (l : List ℕ). judgeFlat at v l r) (lent-stand (g .stand) v s runs measured flags conc flow out (g .kept))
 
     -- the fault of the record as it stands in the file
     in-file : (x : Fault) → x ≡ judge at v (runsOf (g .stand)) (recordIn bytes) → x ≡ verdict file at (g .stand)
@@ -161,8 +159,15 @@ module _ (file out conc flow runs measured flags : List ℕ) (v : View) (s : Sum
         let q = in-file x e in
         sym (g .rest) ∙ walk-refused file at (g .stand) (g .most) more (g .enough) (λ z. n (ap (λ (y : Fault). y .number) q ∙ z)) ∙ ap Refused (sym q)
 
-    pub flat-refused : (f .number ≡ 0 → ⊥) → outcome file ≡ Refused f
-    flat-refused n = refused-by f (judge-refused at v (runsOf (g .stand)) (recordIn bytes) r f read judged-here n) n
+    pub step-refused : (f .number ≡ 0 → ⊥) → Reached file (refusedAt f (length file) v s) runs measured flags conc flow out × (at < length file)
+    step-refused n = (
+      record {
+        refuses = λ _. refused-by f (judge-refused at v (runsOf (g .stand)) (recordIn bytes) r f read judged-here n) n;
+        reads = λ l. absurd (omega arith);
+        goes = λ z. absurd (n z);
+      },
+      more,
+    )
 
     module _ (zero-f : f .number ≡ 0) where
       is-fine : f ≡ fine
@@ -170,6 +175,12 @@ module _ (file out conc flow runs measured flags : List ℕ) (v : View) (s : Sum
 
       pub ready : SomeReady at bytes r v s runs measured flags conc flow out
       ready = record { stand = g .stand; ready = record { kept = g .kept; read = read; passed = sym judged-here ∙ is-fine } }
+
+      size-is : flatSize r ≡ sizeOf here
+      size-is = ap flatSize read ∙ size-flat (recordIn bytes) ∙ ap (λ (l : List ℕ). sizeOf (recordIn l)) (lent-bytes file at)
+
+      pub fits : at + flatSize r ≤ length file
+      fits = omega (arith, size-is, record-whole (drop at file), length-drop at file)
 
       module _ (t : Taken) (runs' measured' flags' conc' flow' out' : List ℕ)
           (took : (stand : Stand) → Ready stand at bytes r v s runs measured flags conc flow out → Took stand at bytes r t runs' measured' flags' conc' flow' out')
@@ -181,81 +192,90 @@ module _ (file out conc flow runs measured flags : List ℕ) (v : View) (s : Sum
           later : t .fault ≡ judge at v (runsOf (g .stand)) (recordIn bytes)
           later = mine .faults ∙ later-judge at bytes v (runsOf (g .stand)) r f read judged-here is-fine
 
-          pub later-refused : (t .fault .number ≡ 0 → ⊥) → outcome file ≡ Refused (t .fault)
-          later-refused n = refused-by (t .fault) later n
+          passed : t .fault .number ≡ 0 → verdict file at (g .stand) .number ≡ 0
+          passed z = sym (ap (λ (y : Fault). y .number) (in-file (t .fault) later)) ∙ z
 
-          size-is : flatSize r ≡ sizeOf (next file at (g .stand))
-          size-is = ap flatSize read ∙ size-flat (recordIn bytes) ∙ ap (λ (l : List ℕ). sizeOf (recordIn l)) (lent-bytes file at)
-
-          pub fits : at + flatSize r ≤ length file
-          fits = omega (arith, size-is, record-whole (drop at file), length-drop at file)
-
-          pub goes : (t .fault .number ≡ 0) → Going file out' conc' flow' runs' measured' flags' (t .view) (t .sums) (at + flatSize r)
+          goes : t .fault .number ≡ 0 → Going file (t .view) (t .sums) (at + flatSize r) runs' measured' flags' conc' flow' out'
           goes z =
-              let q = in-file (t .fault) later in
-              let on = walk-on file at (g .stand) (g .most) more (g .enough) (sym (ap (λ (y : Fault). y .number) q) ∙ z) in
-              let here : whole bytes r ≡ next file at (g .stand) = whole-is bytes r read ∙ ap recordIn (lent-bytes file at) in
+              let on = walk-on file at (g .stand) (g .most) more (g .enough) (passed z) in
+              let same : whole bytes r ≡ here = whole-is bytes r read ∙ ap recordIn (lent-bytes file at) in
               record {
-                stand = taken (g .stand) (next file at (g .stand));
+                stand = taken (g .stand) here;
                 most = on .0;
-                kept = subst (λ (x : rules.Record). Kept (taken (g .stand) x) (t .view) (t .sums) runs' measured' flags' conc' flow' out') here (mine .stays z);
+                kept = subst (λ (x : rules.Record). Kept (taken (g .stand) x) (t .view) (t .sums) runs' measured' flags' conc' flow' out') same (mine .stays z);
                 within = fits;
                 enough = omega (arith, on .2, size-is);
-                rest = ap (λ (n : ℕ). walk file (recordsFrom (on .0) file (at + n)) (taken (g .stand) (next file at (g .stand)))) size-is ∙ sym (on .1) ∙ g .rest;
+                rest = ap (λ (n : ℕ). walk file (recordsFrom (on .0) file (at + n)) (taken (g .stand) here)) size-is ∙ sym (on .1) ∙ g .rest;
               }
 
-          pub goes-less : (t .fault .number ≡ 0) → length file - (at + flatSize r) < length file - at
-          goes-less z =
-              let q = in-file (t .fault) later in
-              omega (arith, size-is, size-some (next file at (g .stand)) (judge-bad at (viewOf (g .stand)) (runsOf (g .stand)) (next file at (g .stand)) (sym (ap (λ (y : Fault). y .number) q) ∙ z)), fits)
+          moves : (b : Bool) → eqb (t .fault .number) 0 ≡ b
+              → Reached file (record { fault = t .fault; at = pick b (at + flatSize r) (length file); view = t .view; sums = t .sums }) runs' measured' flags' conc' flow' out'
+              × (at < pick b (at + flatSize r) (length file))
+          unfolding pick
+          moves true e =
+              let z = eqb-true (t .fault .number) 0 e in (
+                record { refuses = λ n. absurd (n z); reads = λ _. z; goes = λ _. goes z },
+                omega (arith, size-is, size-some here (judge-bad at (viewOf (g .stand)) (runsOf (g .stand)) here (passed z))),
+              )
+          moves false e =
+              let n = eqb-false (t .fault .number) 0 e in (
+                record { refuses = λ _. refused-by (t .fault) later n; reads = λ l. absurd (omega arith); goes = λ z. absurd (n z) },
+                more,
+              )
 
-          -- the same, by the size that the code adds
-          pub goes-at : (n : ℕ) → n ≡ flatSize r → t .fault .number ≡ 0 → Going file out' conc' flow' runs' measured' flags' (t .view) (t .sums) (at + n)
-          goes-at n e z = subst (λ (i : ℕ). Going file out' conc' flow' runs' measured' flags' (t .view) (t .sums) (at + i)) (sym e) (goes z)
+          pub step-on : (n : ℕ) (q : Progress) → n ≡ flatSize r → q ≡ movedOn t (at + n) (length file) → Reached file q runs' measured' flags' conc' flow' out' × (at < q .at)
+          step-on n q e m = rw (m, e) (moves (eqb (t .fault .number) 0) refl)
 
--- ---- the ways out
-module _ (file out conc flow runs measured flags : List ℕ) (v : View) (s : Sums) (at : ℕ) (g : Going file out conc flow runs measured flags v s at) where
-  -- a record is refused: the slices have their lengths still
-  pub promise-refused : (out' conc' flow' : List ℕ) (f : Fault) (w : Walked) → w ≡ walkedOf f v s → (f .number ≡ 0 → ⊥) → outcome file ≡ Refused f
-      → length out' ≡ 336 → length conc' ≡ 2_208 → length flow' ≡ 2_208 → WalkPromise file out' conc' flow' w
-  promise-refused out' conc' flow' f w e n o a b c =
-      rw e (record { refuses = λ _. o; ends = λ z. absurd (n z); outLong = a; concLong = b; flowLong = c })
+-- ---- the file's end
+open-case : (file : List ℕ) (stand : Stand) → viewOf stand .inside ≡ true → ended file stand ≡ Refused (refuse 2 (length file))
+unfolding viewOf ended
+open-case file (Between done) e = absurd (true≢false (sym e))
+open-case file (Inside x done) e = refl
 
-  open-case : (stand : Stand) → viewOf stand .inside ≡ true → ended file stand ≡ Refused (refuse 2 (length file))
-  unfolding viewOf ended
-  open-case (Between done) e = absurd (true≢false (sym e))
-  open-case (Inside x done) e = refl
+module _ (file : List ℕ) (p : Progress) (runs measured flags conc flow out : List ℕ) (h : Reached file p runs measured flags conc flow out) (over : length file ≤ p .at) where
+  module _ (zero-f : p .fault .number ≡ 0) where
+    g : Going file (p .view) (p .sums) (p .at) runs measured flags conc flow out
+    g = h .goes zero-f
 
-  pub open-refused : length file ≤ at → v .inside ≡ true → outcome file ≡ Refused (refuse 2 (length file))
-  open-refused l e =
-      sym (g .rest) ∙ walk-ended file at (g .stand) (g .most) l ∙ open-case (g .stand) (sym (ap (λ (w : View). w .inside) (g .kept .view)) ∙ e)
+    at-end : outcome file ≡ ended file (g .stand)
+    at-end = sym (g .rest) ∙ walk-ended file (p .at) (g .stand) (g .most) over
 
-  closed-by : (stand : Stand) → stand ≡ g .stand → length file ≤ at → v .inside ≡ false → (w : Walked) → w ≡ walkedOf fine v s → Ended file out conc flow w
-  unfolding viewOf ended
-  closed-by (Between done) q l e w r =
-      let k = subst (λ (x : Stand). Kept x v s runs measured flags conc flow out) (sym q) (g .kept) in
-      rw r (record {
-        lines = done;
-        accepted = sym (g .rest) ∙ walk-ended file at (g .stand) (g .most) l ∙ ap (ended file) (sym q);
-        count = ap (λ (x : View). x .lines) (k .view);
-        most = k .lines;
-        rows = k .rows;
-        total1 = k .total1;
-        total2 = k .total2;
-        total3 = k .total3;
-        concHeld = k .books .concHeld;
-        flowHeld = k .books .flowHeld;
-      })
-  closed-by (Inside x done) q l e w r =
-      absurd (true≢false (sym (ap (λ (x : View). x .inside) (g .kept .view ∙ ap viewOf (sym q))) ∙ e))
+    closed-by : (stand : Stand) → stand ≡ g .stand → p .view .inside ≡ false → (w : Walked) → w .lines ≡ p .view .lines → w .total1 ≡ p .sums .total1 → w .total2 ≡ p .sums .total2 → w .total3 ≡ p .sums .total3
+        → Ended file out conc flow w
+    unfolding viewOf ended
+    closed-by (Between done) q e w l a b c =
+        let k = subst (λ (x : Stand). Kept x (p .view) (p .sums) runs measured flags conc flow out) (sym q) (g .kept) in
+        record {
+          lines = done;
+          accepted = at-end ∙ ap (ended file) (sym q);
+          count = l ∙ ap (λ (x : View). x .lines) (k .view);
+          most = k .lines;
+          outLong = k .outLong;
+          rows = k .rows;
+          total1 = a ∙ k .total1;
+          total2 = b ∙ k .total2;
+          total3 = c ∙ k .total3;
+          concHeld = k .books .concHeld;
+          flowHeld = k .books .flowHeld;
+        }
+    closed-by (Inside x done) q e w l a b c = absurd (true≢false (sym (ap (λ (x : View). x .inside) (g .kept .view ∙ ap viewOf (sym q))) ∙ e))
 
-  pub promise-ended : (w : Walked) → w ≡ walkedOf fine v s → length file ≤ at → v .inside ≡ false → WalkPromise file out conc flow w
-  unfolding fine
-  promise-ended w r l e =
+  abbrev walkedBy : Bool → Bool → Walked
+  walkedBy a b = record { fault = need (p .fault) a (need fine b (refuse 2 (length file))); lines = p .view .lines; total1 = p .sums .total1; total2 = p .sums .total2; total3 = p .sums .total3 }
+
+  ends-by : (a b : Bool) → eqb (p .fault .number) 0 ≡ a → p .view .inside ≡ b → WalkPromise file out conc flow (walkedBy a b)
+  unfolding need fine refuse
+  ends-by false b e i = let n = eqb-false (p .fault .number) 0 e in record { refuses = λ _. h .refuses n; ends = λ z. absurd (n z) }
+  ends-by true true e i =
+      let z = eqb-true (p .fault .number) 0 e in
       record {
-        refuses = λ n. absurd (n (ap (λ (x : Walked). x .fault .number) r));
-        ends = λ _. closed-by (g .stand) refl l e w r;
-        outLong = g .kept .outLong;
-        concLong = g .kept .concLong;
-        flowLong = g .kept .flowLong;
+        refuses = λ _. at-end z ∙ open-case file (g z .stand) (sym (ap (λ (w : View). w .inside) (g z .kept .view)) ∙ i);
+        ends = λ q. absurd (omega arith);
       }
+  ends-by true false e i =
+      let z = eqb-true (p .fault .number) 0 e in
+      record { refuses = λ n. absurd (n refl); ends = λ _. closed-by z (g z .stand) refl i (walkedBy true false) refl refl refl refl }
+
+  pub walk-promise : (w : Walked) → w ≡ walkedOf p (length file) → WalkPromise file out conc flow w
+  unfolding first
+  walk-promise w e = rw e (ends-by (eqb (p .fault .number) 0) (p .view .inside) refl refl)

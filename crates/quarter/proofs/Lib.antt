@@ -1,6 +1,8 @@
 -- How the books go on from record to record, and what the promise of `account` asks at each way out.
 pub mod Hours
+pub mod Masks
 pub mod Views
+pub mod Cleared
 pub mod Steps
 pub mod Filled
 pub mod Closed

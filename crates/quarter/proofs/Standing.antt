@@ -30,6 +30,7 @@ use Rattle.quarter.specs.declared.books.Sums.{Sums}
 use Rattle.quarter.specs.declared.take.Taken.{Taken}
 use Rattle.quarter.specs.Views.{afterHead, afterDay, afterEnforcement, afterPlant, afterBatch, openedSums, withSurvey, withFuel}
 use Rattle.quarter.specs.Books.{patched, plain, valuesAt, flagAt, LineBooks, Kept}
+use Rattle.quarter.proofs.Cleared.{cleared-all}
 use Rattle.quarter.specs.Taking.{HeadTaken, DayTaken, EnforcementTaken, PlantTaken, BatchTaken, surveyC, surveyL, replacedCell}
 use Rattle.quarter.proofs.Views.{view-head, view-day, view-enforcement, view-plant, view-batch}
 use Rattle.quarter.proofs.Steps.{begun-books, day-books, enforcement-books, beaten-books, plant-books, batch-books}
@@ -44,9 +45,9 @@ pub kept-head : (done : List Line) (v : View) (s : Sums) (h : Head) (runs measur
     → Kept (Between done) v s runs measured flags conc flow out → h .days ≤ 92 → length done < 48
     → HeadTaken v s h flags conc flow flags' conc' flow' r → Kept (Inside (begun h) done) (r .view) (r .sums) runs measured flags' conc' flow' out
 kept-head done v s h runs measured flags conc flow out flags' conc' flow' r k days room t =
-    let f : flags' ≡ table (λ i. 0) 2_208 = t .flagsNow ∙ ap (table (λ i. 0)) (k .flagsLong) in
-    let c : conc' ≡ table (λ i. 0) 2_208 = t .concNow ∙ ap (table (λ i. 0)) (k .concLong) in
-    let l : flow' ≡ table (λ i. 0) 2_208 = t .flowNow ∙ ap (table (λ i. 0)) (k .flowLong) in
+    let f : flags' ≡ table (λ i. 0) 2_208 = t .flagsNow ∙ cleared-all flags (s .used) (k .books .flagsPast) (k .flagsLong) (k .books .usedMost) in
+    let c : conc' ≡ table (λ i. 0) 2_208 = t .concNow ∙ cleared-all conc (s .used) (k .books .concPast) (k .concLong) (k .books .usedMost) in
+    let l : flow' ≡ table (λ i. 0) 2_208 = t .flowNow ∙ cleared-all flow (s .used) (k .books .flowPast) (k .flowLong) (k .books .usedMost) in
     record {
       view = t .view ∙ ap (λ (w : View). afterHead w h) (k .view) ∙ view-head done h;
       lines = omega arith;
@@ -180,34 +181,34 @@ module _ (x : Line) (done : List Line) (v : View) (s : Sums) (t : Survey) (runs 
     (k : Kept (Inside x done) v s runs measured flags conc flow out)
     (hour : t .hour < 24 * x .head .days) (all-days : length (x .days) ≡ x .head .days) (room : surveys x < 120) (ok : PairAccepted (t .pair))
   where
-    abbrev masks : List ℕ
-    masks = measuredMasks (x .days)
+    abbrev here : Bool
+    here = runsAt (measuredMasks (x .days)) (t .hour)
 
     within : t .hour < 2_208
     within = omega (arith, k .books .bounded .period)
 
-    cell-c : (cells : List ℕ) → replacedCell masks (t .hour) (surveyC t) cells ≡ replacedCell masks (t .hour) (valuesOf (t .pair) .c) cells
-    cell-c cells = ap (λ (n : ℕ). replacedCell masks (t .hour) n cells) (survey-c t ok)
+    cell-c : (cells : List ℕ) → replacedCell here (t .hour) (surveyC t) cells ≡ replacedCell here (t .hour) (valuesOf (t .pair) .c) cells
+    cell-c cells = ap (λ (n : ℕ). replacedCell here (t .hour) n cells) (survey-c t ok)
 
-    cell-l : (cells : List ℕ) → replacedCell masks (t .hour) (surveyL t) cells ≡ replacedCell masks (t .hour) (valuesOf (t .pair) .l) cells
-    cell-l cells = ap (λ (n : ℕ). replacedCell masks (t .hour) n cells) (survey-l t ok)
+    cell-l : (cells : List ℕ) → replacedCell here (t .hour) (surveyL t) cells ≡ replacedCell here (t .hour) (valuesOf (t .pair) .l) cells
+    cell-l cells = ap (λ (n : ℕ). replacedCell here (t .hour) n cells) (survey-l t ok)
 
-    pub kept-enforcement : (flags' conc' flow' : List ℕ) (r : Taken) → x .plant ≡ [] → EnforcementTaken v s t masks flags conc flow flags' conc' flow' r
+    pub kept-enforcement : (flags' conc' flow' : List ℕ) (r : Taken) → x .plant ≡ [] → EnforcementTaken v s t here flags conc flow flags' conc' flow' r
         → Kept (Inside (withEnforcement x t) done) (r .view) (r .sums) runs measured flags' conc' flow' out
     kept-enforcement flags' conc' flow' r none e =
-        let books = enforcement-books x t within (k .books .bounded) all-days none room (most-c t ok) (most-l t ok) s runs measured flags conc flow (k .books) in
+        let books = enforcement-books x t within (k .books .bounded) all-days none room (most-c t ok) (most-l t ok) hour s runs measured flags conc flow (k .books) in
         kept-line x (withEnforcement x t) done v (r .view) s (r .sums) runs runs measured measured flags flags' conc conc' flow flow' out k
         (e .view ∙ ap (λ (w : View). afterEnforcement w (t .hour)) (k .view) ∙ view-enforcement x done t)
         (ap (λ (u : Sums). u .total1) (e .sums)) (ap (λ (u : Sums). u .total2) (e .sums)) (ap (λ (u : Sums). u .total3) (e .sums))
         refl refl (ap length (e .flagsNow) ∙ length-set flags (t .hour) 1)
-        (ap length (e .concNow) ∙ pick-length (runsAt masks (t .hour)) conc (t .hour) (surveyC t)) (ap length (e .flowNow) ∙ pick-length (runsAt masks (t .hour)) flow (t .hour) (surveyL t))
+        (ap length (e .concNow) ∙ pick-length here conc (t .hour) (surveyC t)) (ap length (e .flowNow) ∙ pick-length here flow (t .hour) (surveyL t))
         (books-as (withEnforcement x t) books (e .sums ∙ ap₂ (withSurvey s) (survey-c t ok) (survey-l t ok)) refl refl (e .flagsNow) (e .concNow ∙ cell-c conc) (e .flowNow ∙ cell-l flow))
 
     -- a flag is 1 where an enforcement survey stands
     flag-is : getD flags (t .hour) 0 ≡ flagAt (x .enforcement) (t .hour)
     flag-is = ap (λ (l : List ℕ). getD l (t .hour) 0) (k .books .flagsKept) ∙ table-at (flagAt (x .enforcement)) 2_208 (t .hour) 0 within
 
-    module _ (conc' flow' : List ℕ) (r : Taken) (e : PlantTaken v s t masks flags conc flow conc' flow' r) where
+    module _ (conc' flow' : List ℕ) (r : Taken) (e : PlantTaken v s t here flags conc flow conc' flow' r) where
       plant-view : r .view ≡ viewOf (Inside (withPlant x t) done)
       plant-view = e .view ∙ ap (λ (w : View). afterPlant w (t .hour)) (k .view) ∙ view-plant x done t
 
@@ -222,12 +223,12 @@ module _ (x : Line) (done : List Line) (v : View) (s : Sums) (t : Survey) (runs 
           refl refl refl (ap length ec) (ap length el) (books-as (withPlant x t) books es refl refl refl ec el)
       plant-by false h q =
           let es : r .sums ≡ withSurvey s (valuesOf (t .pair) .c) (valuesOf (t .pair) .l) = e .sums ∙ pick-off _ _ _ q ∙ ap₂ (withSurvey s) (survey-c t ok) (survey-l t ok) in
-          let ec : conc' ≡ replacedCell masks (t .hour) (valuesOf (t .pair) .c) conc = e .concNow ∙ pick-off _ _ _ q ∙ cell-c conc in
-          let el : flow' ≡ replacedCell masks (t .hour) (valuesOf (t .pair) .l) flow = e .flowNow ∙ pick-off _ _ _ q ∙ cell-l flow in
+          let ec : conc' ≡ replacedCell here (t .hour) (valuesOf (t .pair) .c) conc = e .concNow ∙ pick-off _ _ _ q ∙ cell-c conc in
+          let el : flow' ≡ replacedCell here (t .hour) (valuesOf (t .pair) .l) flow = e .flowNow ∙ pick-off _ _ _ q ∙ cell-l flow in
           let books = plant-books x t within (k .books .bounded) all-days room h (most-c t ok) (most-l t ok) s runs measured flags conc flow (k .books) in
           kept-line x (withPlant x t) done v (r .view) s (r .sums) runs runs measured measured flags flags conc conc' flow flow' out k plant-view
           (ap (λ (u : Sums). u .total1) es) (ap (λ (u : Sums). u .total2) es) (ap (λ (u : Sums). u .total3) es)
-          refl refl refl (ap length ec ∙ pick-length (runsAt masks (t .hour)) conc (t .hour) (valuesOf (t .pair) .c)) (ap length el ∙ pick-length (runsAt masks (t .hour)) flow (t .hour) (valuesOf (t .pair) .l))
+          refl refl refl (ap length ec ∙ pick-length here conc (t .hour) (valuesOf (t .pair) .c)) (ap length el ∙ pick-length here flow (t .hour) (valuesOf (t .pair) .l))
           (books-as (withPlant x t) books es refl refl refl ec el)
 
       pub kept-plant : Kept (Inside (withPlant x t) done) (r .view) (r .sums) runs measured flags conc' flow' out

@@ -8,7 +8,7 @@ use native.Mathlib.Nat.{mul-le-mul, mul-le-mul-left, mul-add, mul-comm}
 use native.Mathlib.Omega.{arith}
 use native.Mathlib.Decide.{decLt}
 use lib.ListN.{length, take, drop, getD, set, length-append, length-set}
-use lib.Seq.{take-suc-set}
+use lib.Seq.{take-suc-set, getD-set-other}
 use lib.Dec.{eqb}
 use borrow.Author.Tests.{eq-eqb, ne-eqb, eqb-true, eqb-false}
 use Rattle.law.specs.Words.{pick, sumOf, table, over, largest}
@@ -25,6 +25,7 @@ use Rattle.rules.specs.Fill.{Values, zeroes}
 use Rattle.rules.specs.Grams.{valuesOf, amount, surveyValues, sulphurOf}
 use Rattle.rules.specs.Walk.{begun, withDay, withEnforcement, withPlant, withBatch}
 use Rattle.fuel.specs.Fuel.{ashOf}
+use Rattle.quarter.proofs.Cleared.{table-zero}
 use Rattle.quarter.specs.declared.books.Sums.{Sums}
 use Rattle.quarter.specs.Views.{openedSums, withSurvey, withFuel}
 use Rattle.quarter.specs.Books.{patched, plain, valuesAt, flagAt, Bounded, LineBooks}
@@ -59,7 +60,7 @@ begun-bounded h l =
     }
 
 pub begun-books : (h : Head) (s : Sums) (runs measured : List ℕ) → h .days ≤ 92
-    → LineBooks (begun h) (openedSums s) runs measured (table (λ k. 0) 2_208) (table (λ k. 0) 2_208) (table (λ k. 0) 2_208)
+    → LineBooks (begun h) (openedSums s h) runs measured (table (λ k. 0) 2_208) (table (λ k. 0) 2_208) (table (λ k. 0) 2_208)
 unfolding begun runMasks measuredMasks surveyed besides sulphurOf ashOf sumOf largest flagAt hasSurvey pick zeroes
 begun-books h s runs measured l =
     record {
@@ -72,6 +73,8 @@ begun-books h s runs measured l =
       weightKept = refl;
       sulphurKept = refl;
       ashKept = refl;
+      usedKept = refl;
+      flagsPast = λ k m. table-zero 2_208 k;
       bounded = begun-bounded h l;
     }
 
@@ -147,6 +150,8 @@ module _ (x : Line) (d : Day) (b : Bounded x) (more : length (x .days) < x .head
             weightKept = k .weightKept;
             sulphurKept = k .sulphurKept;
             ashKept = k .ashKept;
+            usedKept = k .usedKept;
+            flagsPast = k .flagsPast;
             bounded = day-bounded;
           }
 
@@ -259,12 +264,12 @@ module _ (x : Line) (s : Survey) (within : s .hour < 2_208) where
             flows = survey-all x e-line s (enforcement-other x s) e-own e-none within (λ v. v .l ≤ 5_000_000) (b .flows) lm;
           }
 
-      pub enforcement-books : (t : Sums) (runs measured flags conc flow : List ℕ) → LineBooks x t runs measured flags conc flow
+      pub enforcement-books : s .hour < 24 * x .head .days → (t : Sums) (runs measured flags conc flow : List ℕ) → LineBooks x t runs measured flags conc flow
           → LineBooks (withEnforcement x s) (withSurvey t (valuesOf (s .pair) .c) (valuesOf (s .pair) .l)) runs measured (set flags (s .hour) 1)
           (pick (runsAt (measuredMasks (x .days)) (s .hour)) (set conc (s .hour) (valuesOf (s .pair) .c)) conc)
           (pick (runsAt (measuredMasks (x .days)) (s .hour)) (set flow (s .hour) (valuesOf (s .pair) .l)) flow)
       unfolding withEnforcement sumOf amount surveyValues
-      enforcement-books t runs measured flags conc flow k =
+      enforcement-books early t runs measured flags conc flow k =
           record {
             runsKept = k .runsKept;
             measuredKept = k .measuredKept;
@@ -277,6 +282,8 @@ module _ (x : Line) (s : Survey) (within : s .hour < 2_208) where
                 ∙ sym (ap (sumOf (λ u. amount (surveyValues u))) (enforced x s no-plant));
             sulphurKept = k .sulphurKept;
             ashKept = k .ashKept;
+            usedKept = k .usedKept;
+            flagsPast = λ h m. getD-set-other flags (s .hour) h 1 0 (λ e. absurd (omega (arith, e, m, early))) ∙ k .flagsPast h m;
             bounded = enforcement-bounded;
           }
 
@@ -332,6 +339,8 @@ module _ (x : Line) (s : Survey) (within : s .hour < 2_208) where
             weightKept = k .weightKept ∙ sym (ap (sumOf (λ u. amount (surveyValues u))) (planted-second x s beaten));
             sulphurKept = k .sulphurKept;
             ashKept = k .ashKept;
+            usedKept = k .usedKept;
+            flagsPast = k .flagsPast;
             bounded = beaten-bounded;
           }
 
@@ -377,6 +386,8 @@ module _ (x : Line) (s : Survey) (within : s .hour < 2_208) where
             weightKept = ap (λ (m : ℕ). valuesOf (s .pair) .c * valuesOf (s .pair) .l + m) (k .weightKept) ∙ sym planted-sum;
             sulphurKept = k .sulphurKept;
             ashKept = k .ashKept;
+            usedKept = k .usedKept;
+            flagsPast = k .flagsPast;
             bounded = plant-bounded;
           }
 
@@ -414,5 +425,7 @@ module _ (x : Line) (f : Batch) (b : Bounded x) (room : length (x .batches) < 92
           weightKept = k .weightKept;
           sulphurKept = ap (max (f .sulphur)) (k .sulphurKept);
           ashKept = ap (λ (m : ℕ). f .kg * f .ash + m) (k .ashKept);
+          usedKept = k .usedKept;
+          flagsPast = k .flagsPast;
           bounded = batch-bounded;
         }

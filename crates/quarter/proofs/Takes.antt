@@ -13,7 +13,7 @@ use Rattle.rules.specs.declared.Coefficients.{Coefficients}
 use Rattle.rules.specs.declared.Coefficients.the-variants.{Balance, Oxides, Dust, NoEntry}
 use Rattle.rules.specs.Grams.{sulphurOf}
 use Rattle.rules.specs.Records.{Day, dayOf, recordIn, IsDay}
-use Rattle.rules.specs.Hours.{runMasks, measuredMasks, running, lacking}
+use Rattle.rules.specs.Hours.{runMasks, measuredMasks, runsAt, firstMissing, running, lacking}
 use Rattle.rules.specs.Lines.{Line, surveys, fuel}
 use Rattle.rules.specs.Method.{isAutomatic, isManual, methodOf, method}
 use Rattle.rules.specs.Tables.{coefficientsOf}
@@ -40,9 +40,10 @@ use Rattle.quarter.specs.Taking.{HeadTaken, DayTaken, EnforcementTaken, 
 use Rattle.quarter.specs.Walking.{whole, laterFault, Ready, Took}
 use Rattle.quarter.proofs.Standing.{kept-head, kept-day, kept-enforcement, kept-plant, kept-batch}
 use Rattle.quarter.proofs.Ending.{method-is, table-limits, in-range, kept-end}
+use Rattle.quarter.proofs.Masks.{runs-kept, states-kept, first-kept}
 use Rattle.quarter.proofs.Steps.{surveyed-most}
 use Rattle.rules.proofs.Method.{manual-surveyed}
-use Rattle.quarter.specs.Closing.{gramsIn}
+use Rattle.quarter.specs.Closing.{gramsIn, periodStates}
 use Rattle.fuel.specs.Fuel.{fuelFigure, ashOf}
 use Rattle.fuel.specs.declared.FuelFigure.{FuelFigure}
 use Rattle.fuel.proofs.Figures.{line-figure, line-wanting, grams-fit}
@@ -126,6 +127,11 @@ days-all x done e d = sym (ap (λ (w : View). w .days) e) ∙ d ∙ ap (λ (w : 
 
 module _ (at : ℕ) (bytes : List ℕ) (v : View) (s : Sums) (runs measured flags conc flow out : List ℕ) where
   -- ---- a head
+  pub ready-head : (stand : Stand) (r : Record) (h : Head) → r ≡ OfHead h → Ready stand at bytes r v s runs measured flags conc flow out → (s .used ≤ 2_208) × (length conc ≡ 2_208) × (length flow ≡ 2_208)
+  ready-head (Between done) r h q k = let y = k .kept in (y .books .usedMost, y .concLong, y .flowLong)
+  ready-head (Inside x done) r h q k =
+      absurd (inside-in x done v (k .kept .view) (head-ok at v (runsOf (Inside x done)) h (rw q at (k .passed)) .outside))
+
   pub took-head : (stand : Stand) (r : Record) (h : Head) (flags' conc' flow' : List ℕ) (t : Taken) → r ≡ OfHead h → Ready stand at bytes r v s runs measured flags conc flow out
       → HeadTaken v s h flags conc flow flags' conc' flow' t → Took stand at bytes r t runs measured flags' conc' flow' out
   unfolding taken takenBetween whole laterFault
@@ -167,19 +173,6 @@ module _ (at : ℕ) (bytes : List ℕ) (v : View) (s : Sums) (runs measured flag
       })
 
   -- ---- surveys
-  -- the part of the masks that is lent
-  lent-masks : (x : Line) (done : List Line) (d : ℕ) → Kept (Inside x done) v s runs measured flags conc flow out → d ≡ v .days → take (d - 0) (drop 0 measured) ≡ measuredMasks (x .days)
-  unfolding viewOf
-  lent-masks x done d k e =
-      let n : d - 0 ≡ length (x .days) = omega (arith, ap (λ (w : View). w .days) (k .view)) in
-      ap (λ (i : ℕ). take i measured) n ∙ k .books .measuredKept
-
-  lent-runs : (x : Line) (done : List Line) (d : ℕ) → Kept (Inside x done) v s runs measured flags conc flow out → d ≡ v .days → take (d - 0) (drop 0 runs) ≡ runMasks (x .days)
-  unfolding viewOf
-  lent-runs x done d k e =
-      let n : d - 0 ≡ length (x .days) = omega (arith, ap (λ (w : View). w .days) (k .view)) in
-      ap (λ (i : ℕ). take i runs) n ∙ k .books .runsKept
-
   pub record SurveyFacts (x : Line) (t : Survey) : Type 0 where
     pub hour : t .hour < 24 * x .head .days
     pub all-days : length (x .days) ≡ x .head .days
@@ -196,38 +189,42 @@ module _ (at : ℕ) (bytes : List ℕ) (v : View) (s : Sums) (runs measured flag
         pair = ok .pair;
       }
 
+  -- whether a survey's hour is measured, by the masks that are kept
+  measured-here : (x : Line) (done : List Line) (t : Survey) → Kept (Inside x done) v s runs measured flags conc flow out → SurveyFacts x t → runsAt measured (t .hour) ≡ runsAt (measuredMasks (x .days)) (t .hour)
+  measured-here x done t k f = runs-kept (length (x .days)) measured (measuredMasks (x .days)) (t .hour) (k .books .measuredKept) (omega (arith, f .hour, f .all-days))
+
   no-plant : (x : Line) (done : List Line) → v ≡ viewOf (Inside x done) → v .plant .count ≡ 0 → x .plant ≡ []
   unfolding viewOf
   no-plant x done e z = empty-of (x .plant) (sym (survey-count (x .plant)) ∙ sym (ap (λ (w : View). w .plant .count) e) ∙ z)
 
-  pub took-enforcement : (stand : Stand) (r : Record) (t : Survey) (d : ℕ) (flags' conc' flow' : List ℕ) (u : Taken) → r ≡ OfEnforcement t → d ≡ v .days → Ready stand at bytes r v s runs measured flags conc flow out
-      → EnforcementTaken v s t (take (d - 0) (drop 0 measured)) flags conc flow flags' conc' flow' u → Took stand at bytes r u runs measured flags' conc' flow' out
+  pub took-enforcement : (stand : Stand) (r : Record) (t : Survey) (flags' conc' flow' : List ℕ) (u : Taken) → r ≡ OfEnforcement t → Ready stand at bytes r v s runs measured flags conc flow out
+      → EnforcementTaken v s t (runsAt measured (t .hour)) flags conc flow flags' conc' flow' u → Took stand at bytes r u runs measured flags' conc' flow' out
   unfolding taken takenInside whole laterFault
-  took-enforcement (Between done) r t d flags' conc' flow' u q n k e =
+  took-enforcement (Between done) r t flags' conc' flow' u q k e =
       absurd (between-out done v (k .kept .view) (enforcement-ok at v (runsOf (Between done)) t (rw q at (k .passed)) .1 .inside))
-  took-enforcement (Inside x done) r t d flags' conc' flow' u q n k e =
+  took-enforcement (Inside x done) r t flags' conc' flow' u q k e =
       let ok = enforcement-ok at v (runsOf (Inside x done)) t (rw q at (k .passed)) in
       let f = survey-facts x done _ _ t (k .kept .view) (ok .1) in
       rw q (record {
         faults = e .faults;
         stays = λ _.
             kept-enforcement x done v s t runs measured flags conc flow out (k .kept) (f .hour) (f .all-days) (f .room) (f .pair) flags' conc' flow' u (no-plant x done (k .kept .view) (ok .0))
-            (subst (λ (l : List ℕ). EnforcementTaken v s t l flags conc flow flags' conc' flow' u) (lent-masks x done d (k .kept) n) e);
+            (subst (λ (b : Bool). EnforcementTaken v s t b flags conc flow flags' conc' flow' u) (measured-here x done t (k .kept) f) e);
       })
 
-  pub took-plant : (stand : Stand) (r : Record) (t : Survey) (d : ℕ) (conc' flow' : List ℕ) (u : Taken) → r ≡ OfPlant t → d ≡ v .days → Ready stand at bytes r v s runs measured flags conc flow out
-      → PlantTaken v s t (take (d - 0) (drop 0 measured)) flags conc flow conc' flow' u → Took stand at bytes r u runs measured flags conc' flow' out
+  pub took-plant : (stand : Stand) (r : Record) (t : Survey) (conc' flow' : List ℕ) (u : Taken) → r ≡ OfPlant t → Ready stand at bytes r v s runs measured flags conc flow out
+      → PlantTaken v s t (runsAt measured (t .hour)) flags conc flow conc' flow' u → Took stand at bytes r u runs measured flags conc' flow' out
   unfolding taken takenInside whole laterFault
-  took-plant (Between done) r t d conc' flow' u q n k e =
+  took-plant (Between done) r t conc' flow' u q k e =
       absurd (between-out done v (k .kept .view) (plant-ok at v (runsOf (Between done)) t (rw q at (k .passed)) .inside))
-  took-plant (Inside x done) r t d conc' flow' u q n k e =
+  took-plant (Inside x done) r t conc' flow' u q k e =
       let ok = plant-ok at v (runsOf (Inside x done)) t (rw q at (k .passed)) in
       let f = survey-facts x done _ _ t (k .kept .view) ok in
       rw q (record {
         faults = e .faults;
         stays = λ _.
             kept-plant x done v s t runs measured flags conc flow out (k .kept) (f .hour) (f .all-days) (f .room) (f .pair) conc' flow' u
-            (subst (λ (l : List ℕ). PlantTaken v s t l flags conc flow conc' flow' u) (lent-masks x done d (k .kept) n) e);
+            (subst (λ (b : Bool). PlantTaken v s t b flags conc flow conc' flow' u) (measured-here x done t (k .kept) f) e);
       })
 
   -- ---- a batch
@@ -251,18 +248,22 @@ module _ (at : ℕ) (bytes : List ℕ) (v : View) (s : Sums) (runs measured flag
       ok .by-fuel (subst (λ (i : ℕ). 2 < i) (sym (ap viewMethod e ∙ method-is x done)) (above-two (method x) (method-least x) n m)) .1
       (ap (λ (w : View). coefficientsOf (w .head)) e ∙ q)
 
-  pub took-end : (stand : Stand) (r : Record) (d : ℕ) (conc' flow' out' : List ℕ) (u : Taken) → r ≡ OfEnd → d ≡ v .days → Ready stand at bytes r v s runs measured flags conc flow out
-      → EndTaken v s (take (d - 0) (drop 0 runs)) (take (d - 0) (drop 0 measured)) conc flow out conc' flow' out' u → Took stand at bytes r u runs measured flags conc' flow' out'
-  unfolding taken takenInside whole laterFault
-  took-end (Between done) r d conc' flow' out' u q n k e = absurd (between-out done v (k .kept .view) (end-ok at v (runsOf (Between done)) (rw q at (k .passed)) .inside))
-  took-end (Inside x done) r d conc' flow' out' u q n k e =
+  pub took-end : (stand : Stand) (r : Record) (conc' flow' out' : List ℕ) (u : Taken) → r ≡ OfEnd → Ready stand at bytes r v s runs measured flags conc flow out
+      → EndTaken v s (periodStates runs measured (v .head .days)) (firstMissing runs measured (v .head .days)) conc flow out conc' flow' out' u
+      → Took stand at bytes r u runs measured flags conc' flow' out'
+  unfolding taken takenInside whole laterFault viewOf
+  took-end (Between done) r conc' flow' out' u q k e = absurd (between-out done v (k .kept .view) (end-ok at v (runsOf (Between done)) (rw q at (k .passed)) .inside))
+  took-end (Inside x done) r conc' flow' out' u q k e =
       let ok = end-ok at v (runsOf (Inside x done)) (rw q at (k .passed)) in
       let a : length (x .days) ≡ x .head .days = days-all x done (k .kept .view) (ok .days-done) in
+      let n : length (x .days) ≡ v .head .days = a ∙ sym (ap (λ (w : View). w .head .days) (k .kept .view)) in
+      let kr : take (v .head .days) runs ≡ runMasks (x .days) = ap (λ (i : ℕ). take i runs) (sym n) ∙ k .kept .books .runsKept in
+      let km : take (v .head .days) measured ≡ measuredMasks (x .days) = ap (λ (i : ℕ). take i measured) (sym n) ∙ k .kept .books .measuredKept in
       rw q (record {
         faults = e .faults;
         stays = λ _.
             kept-end x done v s runs measured flags conc flow out (k .kept) a (no-entry x done (k .kept .view) ok) conc' flow' out' u
-            (subst₂ (λ (i j : List ℕ). EndTaken v s i j conc flow out conc' flow' out' u) (lent-runs x done d (k .kept) n) (lent-masks x done d (k .kept) n) e);
+            (subst₂ (λ (i : List ℕ) (j : ℕ). EndTaken v s i j conc flow out conc' flow' out' u) (states-kept (v .head .days) runs measured _ _ kr km) (first-kept (v .head .days) runs measured _ _ kr km) e);
       })
 
   -- ---- what each asks before it is taken in
@@ -272,7 +273,7 @@ module _ (at : ℕ) (bytes : List ℕ) (v : View) (s : Sums) (runs measured flag
   days-lent (Inside x done) k = omega (arith, ap (λ (w : View). w .days) (k .view), k .books .bounded .days, k .books .bounded .period)
 
   pub ready-day : (stand : Stand) (r : Record) (m : DayMasks) → r ≡ OfDay m → Ready stand at bytes r v s runs measured flags conc flow out
-      → (m .number < 92) × (length runs ≡ 92) × (length measured ≡ 92) × (length conc ≡ 2_208) × (length flow ≡ 2_208) × (v .days < 92) × (v .running ≤ 2_208) × (v .missing ≤ 2_208)
+      → (m .number < 92) × (length conc ≡ 2_208) × (length flow ≡ 2_208) × (v .days < 92) × (v .running ≤ 2_208) × (v .missing ≤ 2_208)
   unfolding viewOf
   ready-day (Between done) r m q k = absurd (between-out done v (k .kept .view) (day-ok at v (runsOf (Between done)) m (rw q at (k .passed)) .inside))
   ready-day (Inside x done) r m q k =
@@ -281,8 +282,6 @@ module _ (at : ℕ) (bytes : List ℕ) (v : View) (s : Sums) (runs measured flag
       let b = k .kept .books .bounded in
       let n : v .days < 92 = omega (arith, ok .room, ap (λ (w : View). w .head .days) e, b .period) in (
         omega (arith, ok .turn),
-        k .kept .runsLong,
-        k .kept .measuredLong,
         k .kept .concLong,
         k .kept .flowLong,
         n,
@@ -296,22 +295,22 @@ module _ (at : ℕ) (bytes : List ℕ) (v : View) (s : Sums) (runs measured flag
       (omega (arith, k .books .surveyedKept, surveyed-most x, b .surveyCount), omega (arith, k .books .weightKept, b .surveyWeights, surveyed-most x, b .surveyCount))
 
   pub ready-enforcement : (stand : Stand) (r : Record) (t : Survey) → r ≡ OfEnforcement t → Ready stand at bytes r v s runs measured flags conc flow out
-      → (t .hour < 2_208) × (length flags ≡ 2_208) × (length conc ≡ 2_208) × (length flow ≡ 2_208) × (v .enforcement .count < 120) × (s .surveyed < 120) × (s .weight ≤ 600_000_000_000_000)
+      → (t .hour < 2_208) × (length conc ≡ 2_208) × (length flow ≡ 2_208) × (v .enforcement .count < 120) × (s .surveyed < 120) × (s .weight ≤ 600_000_000_000_000)
   ready-enforcement (Between done) r t q k = absurd (between-out done v (k .kept .view) (enforcement-ok at v (runsOf (Between done)) t (rw q at (k .passed)) .1 .inside))
   ready-enforcement (Inside x done) r t q k =
       let ok = enforcement-ok at v (runsOf (Inside x done)) t (rw q at (k .passed)) .1 in
       let f = survey-facts x done _ _ t (k .kept .view) ok in
       let b = k .kept .books .bounded in
-      (omega (arith, f .hour, b .period), k .kept .flagsLong, k .kept .concLong, k .kept .flowLong, omega (arith, ok .room), omega (arith, k .kept .books .surveyedKept, surveyed-most x, f .room), weights-most x done (k .kept) .1)
+      (omega (arith, f .hour, b .period), k .kept .concLong, k .kept .flowLong, omega (arith, ok .room), omega (arith, k .kept .books .surveyedKept, surveyed-most x, f .room), weights-most x done (k .kept) .1)
 
   pub ready-plant : (stand : Stand) (r : Record) (t : Survey) → r ≡ OfPlant t → Ready stand at bytes r v s runs measured flags conc flow out
-      → (t .hour < 2_208) × (length flags ≡ 2_208) × (length conc ≡ 2_208) × (length flow ≡ 2_208) × (v .plant .count < 120) × (s .surveyed < 120) × (s .weight ≤ 600_000_000_000_000)
+      → (t .hour < 2_208) × (length conc ≡ 2_208) × (length flow ≡ 2_208) × (v .plant .count < 120) × (s .surveyed < 120) × (s .weight ≤ 600_000_000_000_000)
   ready-plant (Between done) r t q k = absurd (between-out done v (k .kept .view) (plant-ok at v (runsOf (Between done)) t (rw q at (k .passed)) .inside))
   ready-plant (Inside x done) r t q k =
       let ok = plant-ok at v (runsOf (Inside x done)) t (rw q at (k .passed)) in
       let f = survey-facts x done _ _ t (k .kept .view) ok in
       let b = k .kept .books .bounded in
-      (omega (arith, f .hour, b .period), k .kept .flagsLong, k .kept .concLong, k .kept .flowLong, omega (arith, ok .room), omega (arith, k .kept .books .surveyedKept, surveyed-most x, f .room), weights-most x done (k .kept) .1)
+      (omega (arith, f .hour, b .period), k .kept .concLong, k .kept .flowLong, omega (arith, ok .room), omega (arith, k .kept .books .surveyedKept, surveyed-most x, f .room), weights-most x done (k .kept) .1)
 
   pub ready-batch : (stand : Stand) (r : Record) (b : Batch) → r ≡ OfBatch b → Ready stand at bytes r v s runs measured flags conc flow out
       → (v .batches < 92) × (b .kg + v .fuel ≤ 10_000_000_000) × (b .ash ≤ 10_000) × (s .ash ≤ 100_000_000_000_000)
@@ -321,7 +320,7 @@ module _ (at : ℕ) (bytes : List ℕ) (v : View) (s : Sums) (runs measured flag
       let m = k .kept .books .bounded in
       (ok .room, omega (arith, ok .fuel-most), ok .ash-most, omega (arith, k .kept .books .ashKept, m .ashMost, m .fuelMost))
 
-  pub ready-end : (stand : Stand) (r : Record) → r ≡ OfEnd → Ready stand at bytes r v s runs measured flags conc flow out → EndReady v s conc flow out
+  pub ready-end : (stand : Stand) (r : Record) → r ≡ OfEnd → Ready stand at bytes r v s runs measured flags conc flow out → EndReady v s conc flow
   unfolding viewOf
   ready-end (Between done) r q k = absurd (between-out done v (k .kept .view) (end-ok at v (runsOf (Between done)) (rw q at (k .passed)) .inside))
   ready-end (Inside x done) r q k =
@@ -335,7 +334,6 @@ module _ (at : ℕ) (bytes : List ℕ) (v : View) (s : Sums) (runs measured flag
         days = omega (arith, ap (λ (w : View). w .head .days) e, b .period);
         concLong = k .kept .concLong;
         flowLong = k .kept .flowLong;
-        outLong = k .kept .outLong;
         limits = rw (y .concKept, y .flowKept) (table-limits x b);
         counts = omega (arith, ap (λ (w : View). w .enforcement .count) e, ap (λ (w : View). w .plant .count) e, survey-count (x .enforcement), survey-count (x .plant), surveys-are x, b .surveyCount);
         some = λ m. subst (λ (i : ℕ). 0 < i) (sym (y .surveyedKept)) (manual-surveyed x (sym (ap viewMethod e ∙ method-is x done) ∙ m));

@@ -60,16 +60,22 @@ pub record LineBooks (x : Line) (s : Sums) (runs measured flags conc flow : List
   pub weightKept : s .weight ≡ sumOf (λ t. amount (surveyValues t)) (surveyed x)
   pub sulphurKept : s .sulphur ≡ sulphurOf (x .batches)
   pub ashKept : s .ash ≡ ashOf (x .batches)
+  pub usedKept : s .used ≡ 24 * x .head .days
+  pub flagsPast : (h : ℕ) → 24 * x .head .days ≤ h → getD flags h 0 ≡ 0
   pub bounded : Bounded x
 
--- what the cells hold between two lines
-pub record DoneCells (done : List Line) (conc flow : List ℕ) : Type 0 where
+-- what the cells hold between two lines: past those that the newest line used they are 0
+pub record DoneCells (done : List Line) (used : ℕ) (flags conc flow : List ℕ) : Type 0 where
   pub concHeld : conc ≡ concentrationCells done
   pub flowHeld : flow ≡ flowCells done
+  pub usedMost : used ≤ 2_208
+  pub flagsPast : (h : ℕ) → used ≤ h → getD flags h 0 ≡ 0
+  pub concPast : (h : ℕ) → used ≤ h → getD conc h 0 ≡ 0
+  pub flowPast : (h : ℕ) → used ≤ h → getD flow h 0 ≡ 0
 
 -- the one or the other
 abbrev pub OpenBooks : Stand → Sums → List ℕ → List ℕ → List ℕ → List ℕ → List ℕ → Type 0
-OpenBooks (Between done) s runs measured flags conc flow = DoneCells done conc flow
+OpenBooks (Between done) s runs measured flags conc flow = DoneCells done (s .used) flags conc flow
 OpenBooks (Inside x done) s runs measured flags conc flow = LineBooks x s runs measured flags conc flow
 
 -- the lines that are done

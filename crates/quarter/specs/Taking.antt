@@ -5,14 +5,13 @@ use mathlib.Core.List.{List, [], _∷_}
 use mathlib.Core.Path.{_≡_}
 use lib.ListN.{length, getD, set}
 use lib.Dec.{eqb}
-use Rattle.law.specs.Words.{pick, table}
+use Rattle.law.specs.Words.{pick, table, over}
 use Rattle.reading.specs.Reading.{reading, concentrationOf, flowOf}
 use Rattle.rules.specs.declared.Head.{Head}
 use Rattle.rules.specs.declared.Survey.{Survey}
 use Rattle.rules.specs.declared.Batch.{Batch}
 use Rattle.rules.specs.declared.View.{View}
 use Rattle.rules.specs.Records.{dayOf}
-use Rattle.rules.specs.Hours.{runsAt, firstMissing}
 use Rattle.rules.specs.Method.{methodOf}
 use Rattle.rules.specs.Judge.{fine, judgeHours}
 use Rattle.record.specs.declared.DayMasks.{DayMasks}
@@ -28,10 +27,10 @@ use Rattle.quarter.specs.Books.{patched}
 pub record HeadTaken (v : View) (s : Sums) (h : Head) (flags conc flow flags' conc' flow' : List ℕ) (r : Taken) : Type 0 where
   pub faults : r .fault ≡ fine
   pub view : r .view ≡ afterHead v h
-  pub sums : r .sums ≡ openedSums s
-  pub flagsNow : flags' ≡ table (λ k. 0) (length flags)
-  pub concNow : conc' ≡ table (λ k. 0) (length conc)
-  pub flowNow : flow' ≡ table (λ k. 0) (length flow)
+  pub sums : r .sums ≡ openedSums s h
+  pub flagsNow : flags' ≡ over (λ k. 0) (s .used) flags
+  pub concNow : conc' ≡ over (λ k. 0) (s .used) conc
+  pub flowNow : flow' ≡ over (λ k. 0) (s .used) flow
 
 -- a day: its masks and its 24 values, unless a reading is refused
 pub record DayTaken (at : ℕ) (bytes : List ℕ) (v : View) (s : Sums) (d : DayMasks) (runs measured conc flow runs' measured' conc' flow' : List ℕ) (r : Taken) : Type 0 where
@@ -50,12 +49,20 @@ surveyC s = kept (concentrationOf (reading (s .pair .concentration)))
 abbrev pub surveyL : Survey → ℕ
 surveyL s = kept (flowOf (reading (s .pair .flow)))
 
--- a measured hour's cell replaced
-abbrev pub replacedCell : List ℕ → ℕ → ℕ → List ℕ → List ℕ
-replacedCell measured h v cells = pick (runsAt measured h) (set cells h v) cells
+-- the cell of hour h replaced, where the hour is measured
+abbrev pub replacedCell : Bool → ℕ → ℕ → List ℕ → List ℕ
+replacedCell measured h v cells = pick measured (set cells h v) cells
 
--- an enforcement survey
-pub record EnforcementTaken (v : View) (s : Sums) (t : Survey) (measured flags conc flow flags' conc' flow' : List ℕ) (r : Taken) : Type 0 where
+-- a survey that stands, in a measured hour or another
+pub record SurveyTaken (view : View) (s : Sums) (t : Survey) (measured : Bool) (conc flow conc' flow' : List ℕ) (r : Taken) : Type 0 where
+  pub faults : r .fault ≡ fine
+  pub views : r .view ≡ view
+  pub sums : r .sums ≡ withSurvey s (surveyC t) (surveyL t)
+  pub concNow : conc' ≡ replacedCell measured (t .hour) (surveyC t) conc
+  pub flowNow : flow' ≡ replacedCell measured (t .hour) (surveyL t) flow
+
+-- an enforcement survey, in a measured hour or another
+pub record EnforcementTaken (v : View) (s : Sums) (t : Survey) (measured : Bool) (flags conc flow flags' conc' flow' : List ℕ) (r : Taken) : Type 0 where
   pub faults : r .fault ≡ fine
   pub view : r .view ≡ afterEnforcement v (t .hour)
   pub sums : r .sums ≡ withSurvey s (surveyC t) (surveyL t)
@@ -64,7 +71,7 @@ pub record EnforcementTaken (v : View) (s : Sums) (t : Survey) (measured flags c
   pub flowNow : flow' ≡ replacedCell measured (t .hour) (surveyL t) flow
 
 -- a plant survey, where an enforcement survey stands and where none does
-pub record PlantTaken (v : View) (s : Sums) (t : Survey) (measured flags conc flow conc' flow' : List ℕ) (r : Taken) : Type 0 where
+pub record PlantTaken (v : View) (s : Sums) (t : Survey) (measured : Bool) (flags conc flow conc' flow' : List ℕ) (r : Taken) : Type 0 where
   pub faults : r .fault ≡ fine
   pub view : r .view ≡ afterPlant v (t .hour)
   pub sums : r .sums ≡ pick (eqb (getD flags (t .hour) 0) 1) s (withSurvey s (surveyC t) (surveyL t))
@@ -81,12 +88,15 @@ pub record BatchTaken (v : View) (s : Sums) (b : Batch) (r : Taken) : Type 0 whe
 abbrev pub viewMethod : View → ℕ
 viewMethod v = methodOf (v .head) (v .enforcement .count + v .plant .count) (v .running) (v .missing)
 
+-- the row of the open line
+abbrev pub rowIn : View → ℕ → ℕ → ℕ → List ℕ
+rowIn v method grams first = v .head .stack ∷ v .head .pollutant ∷ method ∷ grams ∷ v .running ∷ v .missing ∷ first ∷ []
+
 -- what closing a line asks
-pub record EndReady (v : View) (s : Sums) (conc flow out : List ℕ) : Type 0 where
+pub record EndReady (v : View) (s : Sums) (conc flow : List ℕ) : Type 0 where
   pub days : v .head .days ≤ 92
   pub concLong : length conc ≡ 2_208
   pub flowLong : length flow ≡ 2_208
-  pub outLong : length out ≡ 336
   pub limits : Limits conc flow
   pub counts : v .enforcement .count + v .plant .count ≤ 120
   pub some : viewMethod v ≡ 2 → 0 < s .surveyed
@@ -100,11 +110,11 @@ pub record EndReady (v : View) (s : Sums) (conc flow out : List ℕ) : Type 0 wh
   pub total3 : s .total3 ≤ 960_000_000_000_000
 
 -- an end: the grams, the row and the totals
-pub record EndTaken (v : View) (s : Sums) (runs measured conc flow out conc' flow' out' : List ℕ) (r : Taken) : Type 0 where
+pub record EndTaken (v : View) (s : Sums) (states : List ℕ) (first : ℕ) (conc flow out conc' flow' out' : List ℕ) (r : Taken) : Type 0 where
   pub grams : ℕ
   pub small : grams ≤ 20_000_000_000_000
-  pub figures : LineGrams (viewMethod v) v s runs measured conc flow conc' flow' grams
+  pub figures : LineGrams (viewMethod v) v s states conc flow conc' flow' grams
   pub faults : r .fault ≡ fine
   pub view : r .view ≡ afterEnd v
   pub sums : r .sums ≡ withGrams s (v .head .pollutant) grams
-  pub outNow : out' ≡ patched (λ k. getD (v .head .stack ∷ v .head .pollutant ∷ viewMethod v ∷ grams ∷ v .running ∷ v .missing ∷ firstMissing runs measured (v .head .days) ∷ []) k 0) 7 (7 * v .lines) out
+  pub outNow : out' ≡ patched (λ k. getD (rowIn v (viewMethod v) grams first) k 0) 7 (7 * v .lines) out

@@ -1,16 +1,20 @@
 -- The view and the sums after each kind of record that is not refused.
 use Prim.Native.Nat.{ℕ, _+_, _*_, max}
 use mathlib.Core.Bool.{Bool, true, false}
+use lib.Dec.{eqb, leb}
+use Rattle.law.specs.Words.{need, pick}
 use Rattle.rules.specs.declared.Head.{Head}
 use Rattle.rules.specs.declared.Surveys.{Surveys}
 use Rattle.rules.specs.declared.Batch.{Batch}
 use Rattle.rules.specs.declared.View.{View}
 use Rattle.rules.specs.Hours.{runningOf, missingOf}
-use Rattle.rules.specs.Judge.{key}
+use Rattle.rules.specs.Judge.{refuse, fine, first, key}
 use Rattle.rules.specs.Walk.{noHead}
 use Rattle.record.specs.declared.DayMasks.{DayMasks}
 use Rattle.rules.specs.declared.Fault.{Fault}
 use Rattle.quarter.specs.declared.books.Sums.{Sums}
+use Rattle.quarter.specs.declared.take.Taken.{Taken}
+use Rattle.quarter.specs.declared.walk.Progress.{Progress}
 use Rattle.quarter.specs.declared.walk.Walked.{Walked}
 
 -- no survey yet
@@ -47,24 +51,45 @@ afterBatch v kg =
 abbrev pub afterEnd : View → View
 afterEnd v = openedView false (v .lines + 1) (v .floor) noHead
 
--- the sums of a line that is opened: the totals stay
-abbrev pub openedSums : Sums → Sums
-openedSums s = record { surveyed = 0; weight = 0; sulphur = 0; ash = 0; total1 = s .total1; total2 = s .total2; total3 = s .total3 }
+-- the sums of a line that is opened: the totals stay, and its period's cells will be used
+abbrev pub openedSums : Sums → Head → Sums
+openedSums s h = record { surveyed = 0; weight = 0; sulphur = 0; ash = 0; used = 24 * h .days; total1 = s .total1; total2 = s .total2; total3 = s .total3 }
 
 -- a surveyed hour more, with its c and l
 abbrev pub withSurvey : Sums → ℕ → ℕ → Sums
 withSurvey s c l =
-    record { surveyed = s .surveyed + 1; weight = c * l + s .weight; sulphur = s .sulphur; ash = s .ash; total1 = s .total1; total2 = s .total2; total3 = s .total3 }
+    record { surveyed = s .surveyed + 1; weight = c * l + s .weight; sulphur = s .sulphur; ash = s .ash; used = s .used; total1 = s .total1; total2 = s .total2; total3 = s .total3 }
 
 -- a batch more
 abbrev pub withFuel : Sums → Batch → Sums
 withFuel s b =
-    record { surveyed = s .surveyed; weight = s .weight; sulphur = max (b .sulphur) (s .sulphur); ash = b .kg * b .ash + s .ash; total1 = s .total1; total2 = s .total2; total3 = s .total3 }
+    record { surveyed = s .surveyed; weight = s .weight; sulphur = max (b .sulphur) (s .sulphur); ash = b .kg * b .ash + s .ash; used = s .used; total1 = s .total1; total2 = s .total2; total3 = s .total3 }
 
 -- no sums yet
 abbrev pub noSums : Sums
-noSums = record { surveyed = 0; weight = 0; sulphur = 0; ash = 0; total1 = 0; total2 = 0; total3 = 0 }
+noSums = record { surveyed = 0; weight = 0; sulphur = 0; ash = 0; used = 0; total1 = 0; total2 = 0; total3 = 0 }
+
+-- nothing is read yet
+abbrev pub atStart : Progress
+atStart = record { fault = fine; at = 0; view = openedView false 0 0 noHead; sums = noSums }
+
+-- a record is refused: nothing more is read
+abbrev pub refusedAt : Fault → ℕ → View → Sums → Progress
+refusedAt fault end v s = record { fault = fault; at = end; view = v; sums = s }
+
+-- after a record: the place after it, or the file's end where it is refused
+abbrev pub movedOn : Taken → ℕ → ℕ → Progress
+movedOn t next end = record { fault = t .fault; at = pick (eqb (t .fault .number) 0) next end; view = t .view; sums = t .sums }
+
+-- 2 where a file that is not refused ends inside a line
+abbrev pub lastFault : Fault → Bool → ℕ → Fault
+lastFault fault inside end = first fault (need fine inside (refuse 2 end))
 
 -- what the walk hands back
-abbrev pub walkedOf : Fault → View → Sums → Walked
-walkedOf fault v s = record { fault = fault; lines = v .lines; total1 = s .total1; total2 = s .total2; total3 = s .total3 }
+abbrev pub walkedOf : Progress → ℕ → Walked
+walkedOf p end =
+    record { fault = lastFault (p .fault) (p .view .inside) end; lines = p .view .lines; total1 = p .sums .total1; total2 = p .sums .total2; total3 = p .sums .total3 }
+
+-- "8 last": where the walk has no fault and fewer than 7 cells per line are lent for rows
+abbrev pub settledFault : Walked → ℕ → Fault
+settledFault w lent = first (w .fault) (need (refuse 8 0) (leb (7 * w .lines) lent) fine)

@@ -1,22 +1,25 @@
 -- What the walk and its steps promise each other.
-use Prim.Native.Nat.{ℕ, _+_, _*_, _≤_}
+use Prim.Native.Nat.{ℕ, _+_, _*_, _<_, _≤_}
 use mathlib.Core.List.{List, []}
 use mathlib.Core.Path.{_≡_}
 use lib.ListN.{length, take}
 use Rattle.rules.specs.declared.Fault.{Fault}
 use Rattle.rules.specs.declared.View.{View}
-use Rattle.rules.specs.Records.{IsHead, IsDay, IsEnforcement, IsPlant, IsBatch, IsEnd, dayOf, recordIn}
+use Rattle.rules.specs.Records.{IsHead, IsDay, IsEnforcement, IsPlant, IsBatch, IsEnd, dayOf, recordIn, recordsFrom}
 use Rattle.rules.specs.Records as rules
 use Rattle.rules.specs.Judge.{fine, judgeHours}
 use Rattle.rules.specs.Lines.{Line}
 use Rattle.rules.specs.Row.{rowsOf, totalOf, concentrationCells, flowCells}
-use Rattle.rules.specs.Walk.{Stand, taken, runsOf, Refused, Accepted, outcome}
+use Rattle.rules.specs.Walk.{Stand, taken, runsOf, walk, Refused, Accepted, outcome}
+use Rattle.rules.specs.Account.{answerFrom, rowsFrom, cellsFrom}
+use Rattle.rules.specs.declared.Answer.{Answer}
 use Rattle.record.specs.declared.Record.{Record}
 use Rattle.record.specs.declared.Record.the-variants.{Bad, OfHead, OfDay, OfEnforcement, OfPlant, OfBatch, OfEnd}
 use Rattle.record.specs.Flat.{flat}
 use Rattle.judge.specs.Flat.{judgeFlat}
 use Rattle.quarter.specs.declared.books.Sums.{Sums}
 use Rattle.quarter.specs.declared.take.Taken.{Taken}
+use Rattle.quarter.specs.declared.walk.Progress.{Progress}
 use Rattle.quarter.specs.declared.walk.Walked.{Walked}
 use Rattle.quarter.specs.Books.{Kept}
 
@@ -56,12 +59,28 @@ pub record Took (stand : Stand) (at : ℕ) (bytes : List ℕ) (r : Record) (t : 
   pub faults : t .fault ≡ laterFault at bytes r
   pub stays : t .fault .number ≡ 0 → Kept (taken stand (whole bytes r)) (t .view) (t .sums) runs measured flags conc flow out
 
+-- the code's state stands for some lines, from which the rules' walk goes on to the file's outcome
+pub record Going (file : List ℕ) (v : View) (s : Sums) (at : ℕ) (runs measured flags conc flow out : List ℕ) : Type 0 where
+  pub stand : Stand
+  pub most : ℕ
+  pub kept : Kept stand v s runs measured flags conc flow out
+  pub within : at ≤ length file
+  pub enough : length file ≤ at + most
+  pub rest : walk file (recordsFrom most file at) stand ≡ outcome file
+
+-- how far the walk is: refused, with nothing more to read; or going on
+pub record Reached (file : List ℕ) (p : Progress) (runs measured flags conc flow out : List ℕ) : Type 0 where
+  pub refuses : (p .fault .number ≡ 0 → ⊥) → outcome file ≡ Refused (p .fault)
+  pub reads : p .at < length file → p .fault .number ≡ 0
+  pub goes : p .fault .number ≡ 0 → Going file (p .view) (p .sums) (p .at) runs measured flags conc flow out
+
 -- a file that is walked to its end between two lines
 pub record Ended (file out conc flow : List ℕ) (w : Walked) : Type 0 where
   pub lines : List Line
   pub accepted : outcome file ≡ Accepted lines
   pub count : w .lines ≡ length lines
   pub most : length lines ≤ 48
+  pub outLong : length out ≡ 336
   pub rows : take (7 * length lines) out ≡ rowsOf lines
   pub total1 : w .total1 ≡ totalOf 1 lines
   pub total2 : w .total2 ≡ totalOf 2 lines
@@ -73,6 +92,10 @@ pub record Ended (file out conc flow : List ℕ) (w : Walked) : Type 0 where
 pub record WalkPromise (file out conc flow : List ℕ) (w : Walked) : Type 0 where
   pub refuses : (w .fault .number ≡ 0 → ⊥) → outcome file ≡ Refused (w .fault)
   pub ends : w .fault .number ≡ 0 → Ended file out conc flow w
-  pub outLong : length out ≡ 336
-  pub concLong : length conc ≡ 2_208
-  pub flowLong : length flow ≡ 2_208
+
+-- a file that is walked, and its work slices of 2,208 cells: what the promise of `account` asks where both are lent
+pub record Settled (file rows : List ℕ) (r : Answer) (rows' conc flow : List ℕ) : Type 0 where
+  pub answers : r ≡ answerFrom (length rows) (outcome file)
+  pub leaves : rows' ≡ rowsFrom rows (outcome file)
+  pub concentrationsHold : conc ≡ cellsFrom concentrationCells (length rows) (outcome file)
+  pub flowsHold : flow ≡ cellsFrom flowCells (length rows) (outcome file)

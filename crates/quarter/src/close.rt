@@ -8,6 +8,7 @@ ghost use Prim.Native.Nat.{_+_, _*_, _^_, _<_, _≤_};
 ghost use lib.ListN.{length};
 ghost use Rattle.law.specs.Words.{need, halvesUp};
 ghost use lib.Dec.{eqb};
+ghost use Rattle.rules.specs.Hours.{firstMissing};
 ghost use Rattle.fills.specs.Gaps.{filledCells};
 ghost use Rattle.quarter.specs.Closing.{weightIn, gramsIn, FilledLine, periodStates, periodWeight, Limits, LineGrams, withGrams};
 
@@ -38,30 +39,46 @@ fn halves_up(n: u64, half: u64) -> u64
     (n + half) / (2 * half)
 }
 
-// Both quantities of a line filled, and the sum of c x l.
-fn fill_line(runs: &[u32], measured: &[u32], days: u8, conc: &mut [u32], flow: &mut [u32]) -> u64
+// The grams of a period by its filled cells: the sum of c x l, over 100,000.
+fn period_grams(conc: &[u32], flow: &[u32], days: u8) -> u64
+    requires { ⌜ (24 * days ≤ length (now conc)) × (24 * days ≤ length (now flow)) × (periodWeight days (now conc) (now flow) ≤ 11_040_000_000_000_000) ⌝ }
+    ensures { λ r. ⌜ r ≡ halvesUp (periodWeight days (now (conc .entry)) (now (flow .entry))) 100_000 ⌝ }
+{
+    let n = 24 * (days as usize);
+    let weight = weight_in(fills::weigh(&conc[0..n], &flow[0..n]));
+    halves_up(weight, 50_000)
+}
+
+// Both quantities of the line filled.
+fn fill_line(runs: &[u32; 92], measured: &[u32; 92], days: u8, conc: &mut [u32], flow: &mut [u32])
     requires { ⌜ (days ≤ 92) × (length (now conc) ≡ 2208) × (length (now flow) ≡ 2208) ⌝ }
-    ensures { λ r. ⌜ FilledLine (now (runs .entry)) (now (measured .entry)) days (now (conc .entry)) (now (flow .entry)) (now (conc .exit)) (now (flow .exit)) r ⌝ }
+    ensures { λ _. ⌜ (now (conc .exit) ≡ filledCells (periodStates (now (runs .entry)) (now (measured .entry)) days) (now (conc .entry))) × (now (flow .exit) ≡ filledCells (periodStates (now (runs .entry)) (now (measured .entry)) days) (now (flow .entry))) ⌝ }
 {
     let mut states = [0u8; 2208];
     hours::hour_states(runs, measured, days, &mut states);
     let n = 24 * (days as usize);
-    fills::fill_gaps(&states[0..n], conc);
-    fills::fill_gaps(&states[0..n], flow);
-    weight_in(fills::weigh(&conc[0..n], &flow[0..n]))
+    let line = &states[0..n];
+    fills::fill_gaps(line, conc);
+    fills::fill_gaps(line, flow);
 }
 
+// Method 1: both quantities filled, and the grams. A line that lacks no hour has nothing to fill.
 fn automatic_grams(
-    runs: &[u32],
-    measured: &[u32],
+    first: u32,
+    runs: &[u32; 92],
+    measured: &[u32; 92],
     days: u8,
     conc: &mut [u32],
     flow: &mut [u32],
 ) -> u64
-    requires { ⌜ (days ≤ 92) × (length (now conc) ≡ 2208) × (length (now flow) ≡ 2208) × Limits (now conc) (now flow) ⌝ }
-    ensures { λ r. ⌜ (now (conc .exit) ≡ filledCells (periodStates (now (runs .entry)) (now (measured .entry)) days) (now (conc .entry))) × (now (flow .exit) ≡ filledCells (periodStates (now (runs .entry)) (now (measured .entry)) days) (now (flow .entry))) × (r ≡ halvesUp (periodWeight days (now (conc .exit)) (now (flow .exit))) 100_000) ⌝ }
+    requires { ⌜ (days ≤ 92) × (length (now conc) ≡ 2208) × (length (now flow) ≡ 2208) × Limits (now conc) (now flow) × (first ≡ firstMissing (now runs) (now measured) days) ⌝ }
+    ensures { λ r. ⌜ FilledLine (periodStates (now (runs .entry)) (now (measured .entry)) days) days (now (conc .entry)) (now (flow .entry)) (now (conc .exit)) (now (flow .exit)) r ⌝ }
 {
-    halves_up(fill_line(runs, measured, days, conc, flow), 50_000)
+    if first == 0 {
+        return period_grams(conc, flow, days);
+    }
+    fill_line(runs, measured, days, conc, flow);
+    period_grams(conc, flow, days)
 }
 
 fn manual_grams(s: Sums, running: u32) -> u64
@@ -74,19 +91,20 @@ fn manual_grams(s: Sums, running: u32) -> u64
 // The grams of a line, and its cells filled under method 1.
 pub fn line_grams(
     method: u32,
+    first: u32,
     v: View,
     s: Sums,
-    runs: &[u32],
-    measured: &[u32],
+    runs: &[u32; 92],
+    measured: &[u32; 92],
     conc: &mut [u32],
     flow: &mut [u32],
 ) -> u64
-    requires { ⌜ (v .head .days ≤ 92) × (length (now conc) ≡ 2208) × (length (now flow) ≡ 2208) × Limits (now conc) (now flow) × (method ≡ 2 → 0 < s .surveyed) × (s .surveyed ≤ 120) × (s .weight ≤ 600_000_000_000_000) × (v .running ≤ 2208) ⌝ }
-    ensures { λ r. ⌜ LineGrams method v s (now (runs .entry)) (now (measured .entry)) (now (conc .entry)) (now (flow .entry)) (now (conc .exit)) (now (flow .exit)) r ⌝ }
+    requires { ⌜ (v .head .days ≤ 92) × (length (now conc) ≡ 2208) × (length (now flow) ≡ 2208) × Limits (now conc) (now flow) × (method ≡ 2 → 0 < s .surveyed) × (s .surveyed ≤ 120) × (s .weight ≤ 600_000_000_000_000) × (v .running ≤ 2208) × (first ≡ firstMissing (now runs) (now measured) (v .head .days)) ⌝ }
+    ensures { λ r. ⌜ LineGrams method v s (periodStates (now (runs .entry)) (now (measured .entry)) (v .head .days)) (now (conc .entry)) (now (flow .entry)) (now (conc .exit)) (now (flow .exit)) r ⌝ }
 {
     if method == 1 {
         let h = v.head;
-        return automatic_grams(runs, measured, h.days, conc, flow);
+        return automatic_grams(first, runs, measured, h.days, conc, flow);
     }
     if method == 2 {
         return manual_grams(s, v.running);

@@ -1,6 +1,6 @@
 -- Faults in a row: the first of them, and what it says that there is none. Assumes nothing.
 use Prim.Native.Nat.{ℕ}
-use mathlib.Core.Bool.{Bool, true, false}
+use mathlib.Core.Bool.{Bool, true, false, not, _||_}
 use mathlib.Core.Path.{_≡_, refl, sym, ap, _∙_}
 use native.Mathlib.Omega.{arith}
 use lib.Dec.{eqb}
@@ -8,6 +8,7 @@ use Rattle.law.specs.Words.{need, pick}
 use Rattle.law.proofs.Tests.{need-false, need-case, pick-case}
 use Rattle.rules.specs.declared.Fault.{Fault}
 use Rattle.rules.specs.Judge.{refuse, fine, first}
+use Rattle.record.specs.Flat.{blame}
 
 by-first : (f g k : Fault) (t : Bool) → eqb (f .number) 0 ≡ t → first (need f t g) k ≡ need f t (first g k)
 unfolding first need
@@ -62,3 +63,15 @@ passed-by f g false h s e = absurd (refuses (eqb (f .number) 0) h (ap (λ (x : F
 pub both-passed : (f g : Fault) → Stands f → first f g ≡ fine → (f ≡ fine) × (g ≡ fine)
 unfolding first
 both-passed f g s e = passed-by f g (eqb (f .number) 0) refl s e
+
+-- ---- a flag for the faults of number 4
+pub blame-two : (place : ℕ) (s t : Bool) → blame place (not s || not t) ≡ need (refuse 4 place) s (need (refuse 4 place) t fine)
+unfolding blame need pick
+blame-two place true true = refl
+blame-two place true false = refl
+blame-two place false t = refl
+
+pub blame-either : (place : ℕ) (a b : Bool) → blame place (a || b) ≡ first (blame place a) (blame place b)
+unfolding blame pick first need refuse fine
+blame-either place true b = refl
+blame-either place false b = refl

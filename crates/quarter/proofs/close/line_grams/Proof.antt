@@ -1,19 +1,10 @@
 -- `quarter::close::line_grams` meets its contract, by the method. Assumes nothing.
+use borrow.Author.Needs.{needs}
 use mathlib.Core.Path.{refl, _∙_, ap}
 use native.Mathlib.Omega.{arith}
 use Rattle.quarter.specs.Closing.{gramsIn}
-use borrow.Author.Needs.{needs}
 use Rattle.quarter.proofs.close.line_grams.Statement.{statement}
 use Rattle.quarter.proofs.close.line_grams.Tie as tie
-
-automatic-grams-requires : tie.Need-automatic-grams-requires
-automatic-grams-requires c κs = search needs
-
-same-length : tie.Need-same-length
-same-length c = search needs
-
-same-length-2 : tie.Need-same-length-2
-same-length-2 c = search needs
 
 returns : tie.Need-returns
 returns c =
@@ -26,9 +17,7 @@ returns c =
     }
 
 manual-grams-requires : tie.Need-manual-grams-requires
-manual-grams-requires c κs =
-    let p = c .before .before .before .before .before .before .pre in
-    (p .4 (c .if2 .taken), p .5, p .6, p .7)
+manual-grams-requires c κs = let p = c .before .before .before .before .pre in (p .4 (c .if2 .taken), p .5, p .6, p .7)
 
 returns-2 : tie.Need-returns-2
 returns-2 c =
@@ -37,12 +26,6 @@ returns-2 c =
       manual = λ _. (refl, refl, c .manual-grams .ensures);
       fuel = λ n m. absurd (m (c .before .if2 .taken));
     }
-
-fuel-figure-requires : tie.Need-fuel-figure-requires
-fuel-figure-requires c κs = search needs
-
-grams-in-requires : tie.Need-grams-in-requires
-grams-in-requires c κs = search needs
 
 returns-3 : tie.Need-returns-3
 returns-3 c =
@@ -57,12 +40,12 @@ pub line-grams-spec : {M : Type 1} → statement M
 line-grams-spec =
     tie.close
     (tie.spec
-    automatic-grams-requires
-    same-length
-    same-length-2
+    (λ c κs. search needs)
+    (λ c. search needs)
+    (λ c. search needs)
     returns
     manual-grams-requires
     returns-2
-    fuel-figure-requires
-    grams-in-requires
+    (λ c κs. search needs)
+    (λ c κs. search needs)
     returns-3)

@@ -10,12 +10,6 @@ use Rattle.quarter.proofs.close.manual_grams.Tie as tie
 mul-halves-up : tie.Need-mul-halves-up
 mul-halves-up c = let p = c .before .pre in omega (arith, mul-le-mul (p .2) (p .3))
 
-cast-halves-up : tie.Need-cast-halves-up
-cast-halves-up c = search needs
-
-mul-halves-up-2 : tie.Need-mul-halves-up-2
-mul-halves-up-2 c = search needs
-
 halves-up-requires : tie.Need-halves-up-requires
 halves-up-requires c κs = let p = c .before .before .pre in (omega arith, omega (arith, mul-le-mul (p .2) (p .3)), omega arith)
 
@@ -24,4 +18,4 @@ returns c = c .halves-up .ensures ∙ ap (halvesUp _) (omega arith)
 
 pub manual-grams-spec : {M : Type 1} → statement M
 manual-grams-spec =
-    tie.close (tie.spec mul-halves-up cast-halves-up mul-halves-up-2 halves-up-requires returns)
+    tie.close (tie.spec mul-halves-up (λ c. search needs) (λ c. search needs) halves-up-requires returns)
