@@ -3,8 +3,8 @@
 
 usage: tools/compute.py [--max BYTES] FILE.rec..        (beside each FILE.rec a FILE.out with what `account` must print)
 
-No code of the project takes part. Each file becomes one statement, `printed FILE ≡ ANSWER`, proved by refl in a throwaway crate of a throwaway
-repository under target/compute/, which holds links to the crates that `printed` stands on. Larger files than BYTES (3000) are passed over.
+No code of the account takes part. Each file becomes one statement, `printed FILE ≡ ANSWER`, proved by refl in a throwaway crate of a throwaway
+repository under target/compute/, which holds links to the rules and to the definition of `printed`. Larger files than BYTES (3000) are passed over.
 The last line says how many agree; the exit status is 0 only where all do.
 """
 import os, re, shutil, subprocess, sys, time
@@ -35,7 +35,7 @@ def names(crates):
     """Every definition that computing opens, as use lines and as one list."""
     uses, opened = [], []
     for c in crates:
-        specs = os.path.join(ROOT, 'crates', c, 'specs')
+        specs = os.path.join(WORK, 'crates', c, 'specs')
         for f in sorted(os.listdir(specs)):
             text = open(os.path.join(specs, f), encoding='utf-8').read()
             ns = re.findall(r'^\s*unfoldable pub (\S+)', text, re.M)
@@ -43,6 +43,17 @@ def names(crates):
                 uses.append('use Rattle.%s.specs.%s.{%s}' % (c, f[:-5], ', '.join(ns)))
                 opened += ns
     return uses, opened
+
+
+def definition(lines):
+    """The definition of `printed` alone, without the calls that write it."""
+    here = os.path.join(WORK, 'crates', 'printed')
+    os.makedirs(os.path.join(here, 'src'))
+    os.makedirs(os.path.join(here, 'specs'))
+    open(os.path.join(here, 'src', 'lib.rt'), 'w').write('// The definition alone.\n')
+    open(os.path.join(here, 'specs', 'Lib.antt'), 'w').write('pub mod Program\n')
+    shutil.copy(os.path.join(ROOT, 'crates', 'printed', 'specs', 'Program.antt'), os.path.join(here, 'specs'))
+    lines.append('printed: law rules')
 
 
 def number(b):
@@ -72,14 +83,16 @@ def main(args):
         sys.exit(__doc__)
     files = [f for f in files if os.path.getsize(f) <= most]
     deps = listed()
-    base = reached('printed', deps)
-    uses, opened = names(base)
+    base = reached('rules', deps)
     shutil.rmtree(os.path.join(WORK, 'crates'), ignore_errors=True)
     os.makedirs(os.path.join(WORK, 'crates'))
     lines, made = [], []
     for c in base:
         os.symlink(os.path.join(ROOT, 'crates', c), os.path.join(WORK, 'crates', c))
         lines.append('%s: %s' % (c, ' '.join(deps[c])))
+    definition(lines)
+    base.append('printed')
+    uses, opened = names(base)
     for k in range(0, len(files), BATCH):
         c = 'computed%d' % (k // BATCH)
         made.append(c)
