@@ -37,7 +37,7 @@ slice-aggregate-put-stated-2 : tie.Need-slice-aggregate-put-stated-2
 slice-aggregate-put-stated-2 c = search needs
 
 put-stated-requires : tie.Need-put-stated-requires
-put-stated-requires c κs = let a = c .before .before .before .before .before .before .before .before in let m = rows-48 _ _ _ _ _ _ _ _ (a .account .ensures) (c .before .before .before .if1 .left) in (m, omega (arith, m, a .account .kept .1 .0), refl, omega (arith, a .before .before .before .before .before .before .pre))
+put-stated-requires c κs = let a = c .before .before .before .before .before .before .before .before in let m = rows-48 _ _ _ _ _ _ _ _ (a .account .ensures) (c .before .before .before .if1 .left) in (omega (arith, m), omega (arith, m, a .account .kept .1 .0), refl, omega (arith, a .before .before .before .before .before .before .pre))
 
 same-length-2 : tie.Need-same-length-2
 same-length-2 c = search needs

@@ -1,5 +1,6 @@
 -- `quarter::settle` meets its contract: stopped by the walk or by too few cells for rows, or accepted. Assumes nothing.
 use borrow.Author.Needs.{needs}
+use native.Mathlib.Omega.{arith}
 use Rattle.quarter.proofs.Promises.{settled-stopped, lent-rows, settled-0}
 use mathlib.Core.Path.{refl, sym}
 use denote.Ref.{now}
@@ -23,7 +24,7 @@ copy-rows-requires c κs =
     let f = c .before .before .before .before .before in
     let w = f .before .before .before .before .before in
     let e = lent-rows _ (now (w .before .before .before .before .before .before .before .before .args .rows)) _ _ _ _ (w .walk .ensures) _ (f .settled-fault .ensures) (c .before .before .before .if1 .left) in
-    (e .1, e .2)
+    (omega (arith, e .1), omega (arith, e .2))
 
 returns-2 : tie.Need-returns-2
 returns-2 c =
