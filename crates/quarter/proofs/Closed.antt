@@ -24,13 +24,11 @@ use Rattle.quarter.specs.Views.{afterEnd}
 use Rattle.rules.specs.Judge.{fine}
 use Rattle.law.proofs.Tables.{table-length}
 use Rattle.hours.specs.States.{stateAt}
-use Rattle.fills.specs.declared.Weight.{Weight}
-use Rattle.fills.specs.declared.Weight.the-variants.{Of, Over}
 use Rattle.fills.specs.Gaps.{hoursIn, filledCells}
-use Rattle.fills.specs.Weights.{products, weightOf}
+use Rattle.fills.specs.Weights.{products}
 use Rattle.fills.proofs.States.{hours-all}
 use Rattle.fills.proofs.Bounds.{largest-each, filled-most, products-most}
-use Rattle.quarter.specs.Closing.{weightIn, periodStates, Limits, periodWeight, LineGrams, withGrams}
+use Rattle.quarter.specs.Closing.{periodStates, Limits, periodWeight, LineGrams, withGrams}
 
 -- the states of the period, as the part of them that is lent
 states-part : (runs measured : List ℕ) (days : ℕ) (cells st : List ℕ) → days ≤ 92 → length cells ≡ 2_208
@@ -46,8 +44,9 @@ pub states-are : (runs measured : List ℕ) (days : ℕ) (cells st cs cs' : List
     → cs' ≡ filledCells (periodStates runs measured days) cs
 states-are runs measured days cells st cs cs' l e s f = f ∙ ap (λ (t : List ℕ). filledCells t cs) (states-part runs measured days cells st l e s)
 
-pub weighed-is : (conc flow : List ℕ) (days : ℕ) (w : Weight) (r : ℕ) → w ≡ weightOf (take (24 * days - 0) (drop 0 conc)) (take (24 * days - 0) (drop 0 flow)) → r ≡ weightIn w → r ≡ periodWeight days conc flow
-weighed-is conc flow days w r e q = let z : 24 * days - 0 ≡ 24 * days = omega arith in q ∙ ap weightIn (e ∙ ap (λ (k : ℕ). weightOf (take k conc) (take k flow)) z)
+-- the parts of the cells that are weighed are those of the period
+pub parts-weigh : (conc flow : List ℕ) (days : ℕ) → products (take (24 * days - 0) (drop 0 conc)) (take (24 * days - 0) (drop 0 flow)) ≡ periodWeight days conc flow
+parts-weigh conc flow days = let z : 24 * days - 0 ≡ 24 * days = omega arith in ap (λ (k : ℕ). products (take k conc) (take k flow)) z
 
 pub halves-of : (n half : ℕ) → 0 < half → (n + half) / (2 * half) ≡ halvesUp n (2 * half)
 unfolding halvesUp
@@ -55,11 +54,6 @@ halves-of n half p =
     let e : 2 * n + 2 * half ≡ (n + half) * 2 = omega arith in
     let f : 2 * (2 * half) ≡ 2 * half * 2 = omega arith in
     sym (ap₂ _/_ e f ∙ mul-div-mul-right (n + half) (2 * half) (let z : 0 < 2 = omega arith in z))
-
--- ---- no weight of a period is too large
-weight-most : (xs ys : List ℕ) → weightIn (weightOf xs ys) ≤ products xs ys
-unfolding weightOf
-weight-most xs ys = need-case (λ (w : Weight). weightIn w ≤ products xs ys) Over (ltb (products xs ys) (2 ^ 64)) (Of (products xs ys)) (λ _. omega arith) (λ _. omega arith)
 
 -- a line that lacks no hour is as if filled
 pub whole-line : (runs measured : List ℕ) (days : ℕ) (cells : List ℕ) → firstMissing runs measured days ≡ 0 → cells ≡ filledCells (periodStates runs measured days) cells
@@ -89,7 +83,7 @@ module _ (runs measured : List ℕ) (days : ℕ) (few : days ≤ 92) where
   pub period-most : (conc flow conc' flow' : List ℕ) → length conc ≡ 2_208 → length flow ≡ 2_208 → Limits conc flow
       → conc' ≡ filledCells (periodStates runs measured days) conc → flow' ≡ filledCells (periodStates runs measured days) flow → periodWeight days conc' flow' ≤ 11_040_000_000_000_000
   period-most conc flow conc' flow' c f l p q =
-      omega (arith, ap₂ (periodWeight days) p q, weight-most (take (24 * days) (filledCells (periodStates runs measured days) conc)) (take (24 * days) (filledCells (periodStates runs measured days) flow)), period-products conc flow c f l)
+      subst (λ (n : ℕ). n ≤ 11_040_000_000_000_000) (sym (ap₂ (periodWeight days) p q)) (period-products conc flow c f l)
 
 -- a share of the grams is at most all of them
 pub share-most : (pollutant own grams r : ℕ) → r ≡ need 0 (eqb pollutant own) grams → r ≤ grams

@@ -25,8 +25,8 @@ use Rattle.rules.specs.Row.{rowOf, rowsOf, totalOf, held, cells, concentrationC
 use Rattle.rules.specs.Walk.{Between, Inside, viewOf}
 use Rattle.rules.proofs.Method.{grams-automatic, grams-manual, grams-fuel}
 use Rattle.fills.specs.Gaps.{filledCells}
-use Rattle.fills.specs.Weights.{products, weightOf}
-use Rattle.fills.proofs.Products.{weight-of, products-amounts}
+use Rattle.fills.specs.Weights.{products}
+use Rattle.fills.proofs.Products.{products-amounts}
 use Rattle.fuel.specs.Fuel.{ashOf, fuelFigure}
 use Rattle.fuel.proofs.Batches.{InRange}
 use Rattle.fuel.proofs.Figures.{line-figure, grams-fit}
@@ -34,7 +34,7 @@ use Rattle.quarter.specs.declared.books.Sums.{Sums}
 use Rattle.quarter.specs.declared.take.Taken.{Taken}
 use Rattle.quarter.specs.Views.{afterEnd}
 use Rattle.quarter.specs.Books.{patched, valuesAt, Bounded, LineBooks, Kept}
-use Rattle.quarter.specs.Closing.{weightIn, gramsIn, periodStates, periodWeight, Limits, LineGrams, withGrams}
+use Rattle.quarter.specs.Closing.{gramsIn, periodStates, periodWeight, Limits, LineGrams, withGrams}
 use Rattle.quarter.specs.Taking.{viewMethod, rowIn, EndTaken}
 use Rattle.quarter.proofs.Views.{survey-count, view-end}
 use Rattle.quarter.proofs.Filled.{unfilled-concentrations, unfilled-flows, filled-concentrations, filled-flows, held-length, held-cells}
@@ -71,13 +71,7 @@ module _ (x : Line) (b : Bounded x) (all-days : length (x .days) ≡ x .head .da
   -- ---- method 1: what is weighed is the sum of the filled hours
   weighed : periodWeight (length (x .days)) (filledCells (periodStates (runMasks (x .days)) (measuredMasks (x .days)) (length (x .days))) (table (λ h. valuesAt x h .c) 2_208)) (filledCells (periodStates (runMasks (x .days)) (measuredMasks (x .days)) (length (x .days))) (table (λ h. valuesAt x h .l) 2_208))
       ≡ sumOf amount (hourly filled x)
-  weighed =
-      let xs = cs (hourly filled x) in
-      let ys = ls (hourly filled x) in
-      let p = period-products (runMasks (x .days)) (measuredMasks (x .days)) (length (x .days)) few (table (λ h. valuesAt x h .c) 2_208) (table (λ h. valuesAt x h .l) 2_208) (table-length _ 2_208) (table-length _ 2_208) (table-limits x b) in
-      let q : products xs ys ≤ 11_040_000_000_000_000 = subst (λ (n : ℕ). n ≤ 11_040_000_000_000_000) (ap₂ products (filled-concentrations x few .0) (filled-flows x few .0)) p in
-      ap weightIn (ap₂ weightOf (filled-concentrations x few .0) (filled-flows x few .0) ∙ sym (weight-of xs ys (products xs ys) refl (lt-of-le-of-lt q (lit< tt))))
-      ∙ sym (products-amounts (hourly filled x))
+  weighed = ap₂ products (filled-concentrations x few .0) (filled-flows x few .0) ∙ sym (products-amounts (hourly filled x))
 
 -- ---- what each method leaves
 pub record Closes (x : Line) (conc' flow' : List ℕ) (g : ℕ) : Type 0 where

@@ -1,6 +1,7 @@
 -- How the books go on from record to record, and what the promise of `account` asks at each way out.
 pub mod Hours
 pub mod Masks
+pub mod Products
 pub mod Views
 pub mod Cleared
 pub mod Steps

@@ -6,20 +6,13 @@ use lib.ListN.{take, getD}
 use lib.Dec.{eqb}
 use Rattle.law.specs.Words.{need, table, halvesUp}
 use Rattle.hours.specs.States.{stateAt}
-use Rattle.fills.specs.declared.Weight.{Weight}
-use Rattle.fills.specs.declared.Weight.the-variants.{Of, Over}
 use Rattle.fills.specs.Gaps.{filledCells}
-use Rattle.fills.specs.Weights.{weightOf}
+use Rattle.fills.specs.Weights.{products}
 use Rattle.rules.specs.declared.View.{View}
 use Rattle.fuel.specs.Fuel.{fuelFigure}
 use Rattle.fuel.specs.declared.FuelFigure.{FuelFigure}
 use Rattle.fuel.specs.declared.FuelFigure.the-variants.{Grams, NoEntry, OutOfRange}
 use Rattle.quarter.specs.declared.books.Sums.{Sums}
-
--- a weight, and 0 for none
-abbrev pub weightIn : Weight → ℕ
-weightIn (Of n) = n
-weightIn Over = 0
 
 -- grams by fuel, and 0 for none
 abbrev pub gramsIn : FuelFigure → ℕ
@@ -33,7 +26,7 @@ periodStates runs measured days = table (stateAt runs measured) (24 * days)
 
 -- the weight of the period's cells
 abbrev pub periodWeight : ℕ → List ℕ → List ℕ → ℕ
-periodWeight days conc flow = weightIn (weightOf (take (24 * days) conc) (take (24 * days) flow))
+periodWeight days conc flow = products (take (24 * days) conc) (take (24 * days) flow)
 
 -- both quantities filled, and the grams of the filled period
 pub record FilledLine (states : List ℕ) (days : ℕ) (conc flow conc' flow' : List ℕ) (r : ℕ) : Type 0 where

@@ -1,6 +1,5 @@
 // The end of a line: its gaps filled and weighed, its grams.
 use crate::books::Sums;
-use fills::Weight;
 use fuel::FuelFigure;
 use rules::View;
 ghost use mathlib.Core.Path.{_≡_};
@@ -10,16 +9,8 @@ ghost use Rattle.law.specs.Words.{need, halvesUp};
 ghost use lib.Dec.{eqb};
 ghost use Rattle.rules.specs.Hours.{firstMissing};
 ghost use Rattle.fills.specs.Gaps.{filledCells};
-ghost use Rattle.quarter.specs.Closing.{weightIn, gramsIn, FilledLine, periodStates, periodWeight, Limits, LineGrams, withGrams};
-
-fn weight_in(w: Weight) -> u64
-    ensures { λ r. ⌜ r ≡ weightIn w ⌝ }
-{
-    match w {
-        Weight::Of(n) => n,
-        Weight::Over => 0,
-    }
-}
+ghost use Rattle.fills.specs.Weights.{products};
+ghost use Rattle.quarter.specs.Closing.{gramsIn, FilledLine, periodStates, periodWeight, Limits, LineGrams, withGrams};
 
 fn grams_in(f: FuelFigure) -> u64
     ensures { λ r. ⌜ r ≡ gramsIn f ⌝ }
@@ -39,13 +30,33 @@ fn halves_up(n: u64, half: u64) -> u64
     (n + half) / (2 * half)
 }
 
+fn product(c: u32, l: u32) -> u64
+    ensures { λ r. ⌜ r ≡ c * l ⌝ }
+{
+    (c as u64) * (l as u64)
+}
+
+// The sum of c x l. It is known to fit, so that no turn tests it.
+fn weigh(conc: &[u32], flow: &[u32]) -> u64
+    requires { ⌜ (length (now flow) ≡ length (now conc)) × (products (now conc) (now flow) < 2 ^ 64) ⌝ }
+    ensures { λ r. ⌜ r ≡ products (now (conc .entry)) (now (flow .entry)) ⌝ }
+{
+    let mut sum: u64 = 0;
+    let mut i: usize = 0;
+    while i < conc.len() {
+        sum += product(conc[i], flow[i]);
+        i += 1;
+    }
+    sum
+}
+
 // The grams of a period by its filled cells: the sum of c x l, over 100,000.
 fn period_grams(conc: &[u32], flow: &[u32], days: u8) -> u64
     requires { ⌜ (24 * days ≤ length (now conc)) × (24 * days ≤ length (now flow)) × (periodWeight days (now conc) (now flow) ≤ 11_040_000_000_000_000) ⌝ }
     ensures { λ r. ⌜ r ≡ halvesUp (periodWeight days (now (conc .entry)) (now (flow .entry))) 100_000 ⌝ }
 {
     let n = 24 * (days as usize);
-    let weight = weight_in(fills::weigh(&conc[0..n], &flow[0..n]));
+    let weight = weigh(&conc[0..n], &flow[0..n]);
     halves_up(weight, 50_000)
 }
 

@@ -3,22 +3,29 @@ use borrow.Author.Needs.{needs}
 use mathlib.Core.Path.{_∙_, ap}
 use Prim.Native.Nat.{ℕ}
 use native.Mathlib.Omega.{arith}
+use lib.ListN.{length-take}
 use Rattle.law.specs.Words.{halvesUp}
-use Rattle.quarter.proofs.Closed.{weighed-is}
+use Rattle.quarter.proofs.Closed.{parts-weigh}
 use denote.Ref.{now}
 use Rattle.quarter.proofs.close.period_grams.Statement.{statement}
 use Rattle.quarter.proofs.close.period_grams.Tie as tie
 
+weigh-requires : tie.Need-weigh-requires
+weigh-requires c κs =
+    let start = c .before .before .before .before in
+    let e = parts-weigh (now (start .args .conc)) (now (start .args .flow)) (start .args .days) in
+    (simp length-take (omega arith), omega (arith, e, start .pre .2))
+
 halves-up-requires : tie.Need-halves-up-requires
 halves-up-requires c κs =
-    let start = c .before .before .before .before .before .before in
-    let e = weighed-is (now (start .args .conc)) (now (start .args .flow)) (start .args .days) _ _ (c .before .weigh .ensures) (c .weight-in .ensures) in
-    (omega arith, omega (arith, e, start .pre .2), omega arith)
+    let start = c .before .before .before .before .before in
+    let e = parts-weigh (now (start .args .conc)) (now (start .args .flow)) (start .args .days) in
+    (omega arith, omega (arith, c .weigh .ensures, e, start .pre .2), omega arith)
 
 returns : tie.Need-returns
 returns c =
-    let a = c .before .before .before .before .before .before .before .args in
-    c .halves-up .ensures ∙ ap (λ (n : ℕ). halvesUp n 100_000) (weighed-is (now (a .conc)) (now (a .flow)) (a .days) _ _ (c .before .before .weigh .ensures) (c .before .weight-in .ensures))
+    let a = c .before .before .before .before .before .before .args in
+    c .halves-up .ensures ∙ ap (λ (n : ℕ). halvesUp n 100_000) (c .before .weigh .ensures ∙ parts-weigh (now (a .conc)) (now (a .flow)) (a .days))
 
 pub period-grams-spec : {M : Type 1} → statement M
 period-grams-spec =
@@ -31,7 +38,6 @@ period-grams-spec =
     (λ c. search needs)
     (λ c. search needs)
     (λ c. search needs)
-    (λ c κs. search needs)
-    (λ c κs. search needs)
+    weigh-requires
     halves-up-requires
     returns)

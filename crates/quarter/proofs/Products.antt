@@ -1,0 +1,25 @@
+-- The sum of products hour by hour. Assumes nothing.
+use mathlib.Core.Path.{_≡_, refl, _∙_, sym, ap, ap₂}
+use mathlib.Core.List.{List, [], _∷_}
+use Prim.Native.Nat.{ℕ, _+_, _*_, _^_, _<_, _≤_}
+use native.Mathlib.Nat.{le-of-lt, lt-of-le-of-lt, mul-le-mul-left}
+use native.Mathlib.Numerals.{add-one}
+use native.Mathlib.Omega.{arith}
+use lib.ListN.{length, getD, drop, drop-of-length-le}
+use lib.Seq.{drop-cons}
+use Rattle.fills.specs.Weights.{products}
+
+-- a product of two u32 is a u64
+pub product-fits : {a b : ℕ} → a < 2 ^ 32 → b < 2 ^ 32 → a * b < 2 ^ 64
+product-fits {a} {b} l m = lt-of-le-of-lt (mul-le-mul-left a (le-of-lt m)) (omega arith)
+
+module _ (xs ys : List ℕ) (i : ℕ) where
+  -- one hour more, and none more
+  pub products-from : i < length xs → i < length ys → products (drop i xs) (drop i ys) ≡ getD xs i 0 * getD ys i 0 + products (drop (i + 1) xs) (drop (i + 1) ys)
+  unfolding products
+  products-from l m =
+      ap₂ products (drop-cons xs i 0 l) (drop-cons ys i 0 m) ∙ ap (λ (k : ℕ). getD xs i 0 * getD ys i 0 + products (drop k xs) (drop k ys)) (sym (add-one i))
+
+  pub products-done : length xs ≤ i → products (drop i xs) (drop i ys) ≡ 0
+  unfolding products
+  products-done l = ap (λ (s : List ℕ). products s (drop i ys)) (drop-of-length-le xs l)
