@@ -1,15 +1,3 @@
--- How the books go on from record to record, and what the promise of `account` asks at each way out.
-pub mod Hours
-pub mod Masks
-pub mod Products
-pub mod Views
-pub mod Cleared
-pub mod Steps
-pub mod Filled
-pub mod Closed
-pub mod Standing
-pub mod Ending
-pub mod Takes
-pub mod Going
+-- What the promise of `account` asks at each way out, and that no second answer meets it.
 pub mod Promises
 pub mod Only

@@ -1,120 +1,143 @@
--- The ways out of the account call, from what its walk promises. Assumes nothing.
+-- The ways out of the account call, from what the walk promises. Assumes nothing.
 use mathlib.Core.Path.{_≡_, refl, _∙_, sym, ap, ap₂}
-use mathlib.Core.Bool.{Bool, true, false}
+use mathlib.Core.Bool.{Bool, true, false, true≢false}
 use mathlib.Core.List.{List, [], _++_}
-use Prim.Native.Nat.{ℕ, _+_, _-_, _*_, _<_, _≤_}
+use Prim.Native.Nat.{ℕ, _+_, _-_, _*_, _<_, _≤_, min}
 use native.Mathlib.Omega.{arith}
-use lib.ListN.{length, take, drop, getD}
-use lib.Seq.{length-take-le, getD-take}
-use lib.Dec.{eqb, leb}
-use borrow.Author.Tests.{le-leb, lt-leb, leb-true, eqb-true, eqb-false}
+use lib.ListN.{length, take, drop, getD, length-append, length-drop, length-replicate}
+use lib.Seq.{take-at, drop-at, length-take-le}
+use lib.Dec.{leb}
+use borrow.Author.Tests.{le-leb, lt-leb, leb-true}
 use Rattle.law.specs.Words.{need, table, over}
-use Rattle.law.proofs.Over.{over-all}
 use Rattle.law.proofs.Tables.{table-is}
-use Rattle.rules.specs.declared.Fault.{Fault}
 use Rattle.rules.specs.declared.Answer.{Answer}
 use Rattle.rules.specs.Lines.{Line}
-use Rattle.rules.specs.Judge.{refuse, fine, first}
+use Rattle.rules.specs.Judge.{refuse}
 use Rattle.rules.specs.Row.{rowsOf, cells, concentrationCells, flowCells}
-use Rattle.rules.specs.Walk.{Refused, Accepted, outcome}
+use Rattle.rules.specs.Walk.{Accepted, outcome}
 use Rattle.rules.specs.Account.{refusal, acceptance, rowsFit, workFits, answerFrom, answerOf, rowsFrom, rowsAfter, cellsFrom, workAfter, Promise}
-use Rattle.quarter.specs.declared.walk.Walked.{Walked}
-use Rattle.quarter.specs.Views.{settledFault}
-use Rattle.quarter.specs.Walking.{Ended, WalkPromise, Settled}
-use Rattle.quarter.proofs.Going.{zeros}
+use Rattle.answers.specs.Answers.{Stated, Denied}
+use Rattle.answers.proofs.Answers.{stated, denied}
+use Rattle.answers.proofs.Rows.{rows-long}
+use Rattle.walk.specs.Books.{noRows}
+use Rattle.walk.proofs.Going.{zeros}
 
--- ---- 9: the work slices
-fits-work : (c f : ℕ) → 2_208 ≤ c → 2_208 ≤ f → workFits c f ≡ true
-unfolding workFits
-fits-work c f a b = rw (le-leb 2_208 c a, le-leb 2_208 f b)
+no-rows-long : length noRows ≡ 336
+unfolding noRows
+no-rows-long = length-replicate {A = ℕ} 336 0
 
-pub short-conc : (c f : ℕ) → c < 2_208 → workFits c f ≡ false
-unfolding workFits
-short-conc c f a = rw (lt-leb 2_208 c a)
-
-pub short-flow : (c f : ℕ) → 2_208 ≤ c → f < 2_208 → workFits c f ≡ false
-unfolding workFits
-short-flow c f a b = rw (le-leb 2_208 c a, lt-leb 2_208 f b)
-
-module _ (file rows conc flow : List ℕ) (r : Answer) where
-  pub promise-9 : workFits (length conc) (length flow) ≡ false → r ≡ refusal (refuse 9 0) → Promise file rows conc flow r rows conc flow
-  unfolding answerOf rowsAfter workAfter need
-  promise-9 e q = record { answers = q ∙ rw e; leaves = rw e; concentrationsHold = rw e; flowsHold = rw e }
-
-  -- ---- both are lent on: their first 2,208 cells come back
-  pub promise-settled : (rows' cs fs : List ℕ) → 2_208 ≤ length conc → 2_208 ≤ length flow → Settled file rows r rows' cs fs
-      → Promise file rows conc flow r rows' (cs ++ drop 2_208 conc) (fs ++ drop 2_208 flow)
-  unfolding answerOf rowsAfter workAfter need
-  promise-settled rows' cs fs a b s =
-      let work = fits-work (length conc) (length flow) a b in
-      record {
-        answers = s .answers ∙ rw work;
-        leaves = s .leaves ∙ rw work;
-        concentrationsHold = ap (λ (t : List ℕ). t ++ drop 2_208 conc) (s .concentrationsHold) ∙ rw work;
-        flowsHold = ap (λ (t : List ℕ). t ++ drop 2_208 flow) (s .flowsHold) ∙ rw work;
-      }
-
--- cleared cells hold no line's hours
-pub cleared : (xs zs : List ℕ) → length xs ≡ 2_208 → zs ≡ over (λ h. 0) 2_208 xs → zs ≡ cells []
+-- the first 2,208 cells cleared hold no line's hours
+pub cleared : (xs ys : List ℕ) → 2_208 ≤ length xs → ys ≡ table (λ h. 0) (length (take 2_208 xs)) → ys ++ drop 2_208 xs ≡ cells [] ++ drop 2_208 xs
 unfolding cells
-cleared xs zs l e = e ∙ over-all (λ h. 0) 2_208 xs (omega (arith, l)) ∙ zeros 2_208
+cleared xs ys l e = ap (λ (t : List ℕ). t ++ drop 2_208 xs) (e ∙ ap (table (λ h. 0)) (length-take-le 2_208 xs l) ∙ zeros 2_208)
 
--- a file that is accepted, with cells enough for its rows
-abbrev answered : Walked → Answer
-answered w = record { number = 0; place = 0; rows = w .lines; total1 = w .total1; total2 = w .total2; total3 = w .total3 }
+-- the cells past 2,208 stand as they were
+past-kept : (cs xs ys : List ℕ) → ys ≡ cs ++ drop 2_208 xs → length ys ≡ length xs → 2_208 ≤ length xs → drop 2_208 ys ≡ drop 2_208 xs
+past-kept cs xs ys e l m =
+    let n : length cs ≡ 2_208 = omega (arith, ap length e, length-append cs (drop 2_208 xs), length-drop 2_208 xs, l, m) in
+    ap (drop 2_208) e ∙ drop-at cs (drop 2_208 xs) 2_208 n
 
-ended-settled : (file rows out conc flow : List ℕ) (w : Walked) (e : Ended file out conc flow w) → leb (7 * w .lines) (length rows) ≡ true → (r : Answer) (rows' : List ℕ)
-    → r ≡ answered w → rows' ≡ over (λ k. getD out k 0) (7 * w .lines) rows → Settled file rows r rows' conc flow
-unfolding answerFrom rowsFrom cellsFrom rowsFit acceptance need
-ended-settled file rows out conc flow w e b r rows' a s =
-    let n : leb (7 * length (e .lines)) (length rows) ≡ true = ap (λ (i : ℕ). leb (7 * i) (length rows)) (sym (e .count)) ∙ b in
-    let front : table (λ k. getD out k 0) (7 * length (e .lines)) ≡ rowsOf (e .lines) =
-    sym (table-is (λ k. getD out k 0) (7 * length (e .lines)) 0 (take (7 * length (e .lines)) out)
-    (length-take-le (7 * length (e .lines)) out (omega (arith, e .most, e .outLong)))
-    (λ k l. getD-take (7 * length (e .lines)) out k 0 l)) ∙ e .rows in
-    record {
-      answers = a ∙ rw (e .count, e .total1, e .total2, e .total3, e .accepted, n);
-      leaves = s ∙ rw (e .count, e .accepted, n) (ap (λ (t : List ℕ). t ++ drop (7 * length (e .lines)) rows) front);
-      concentrationsHold = e .concHeld ∙ rw (e .accepted, n);
-      flowsHold = e .flowHeld ∙ rw (e .accepted, n);
-    }
+-- the rows that are copied are those of the lines
+copied : (lines : List Line) (t rows rows' : List ℕ) (n : ℕ) → n ≡ 7 * length lines → t ≡ rowsOf lines ++ drop (7 * length lines) noRows → n ≤ length rows
+    → rows' ≡ over (λ k. getD (take (n - 0) (drop 0 t)) k 0) (min (length (take (n - 0) (drop 0 t))) (length rows)) rows → rows' ≡ rowsOf lines ++ drop (7 * length lines) rows
+copied lines t rows rows' n q e l o =
+    let z : n - 0 ≡ 7 * length lines = omega (arith, q) in
+    let front : take (n - 0) (drop 0 t) ≡ rowsOf lines = ap₂ take z e ∙ take-at (rowsOf lines) (drop (7 * length lines) noRows) (7 * length lines) (rows-long lines) in
+    let size : min (length (rowsOf lines)) (length rows) ≡ 7 * length lines = omega (arith, rows-long lines, l, q) in
+    o ∙ ap (λ (s : List ℕ). over (λ k. getD s k 0) (min (length s) (length rows)) rows) front
+    ∙ ap (λ (m : ℕ). over (λ k. getD (rowsOf lines) k 0) m rows) size
+    ∙ ap (λ (s : List ℕ). s ++ drop (7 * length lines) rows) (sym (table-is (λ k. getD (rowsOf lines) k 0) (7 * length lines) 0 (rowsOf lines) (rows-long lines) (λ k m. refl)))
 
-module _ (file rows out conc flow : List ℕ) (w : Walked) (p : WalkPromise file out conc flow w) where
-  abbrev faultBy : Bool → Bool → Fault
-  faultBy a b = need (w .fault) a (need (refuse 8 0) b fine)
+module _ (file conc flow : List ℕ) (a : Answer) (t conc' flow' : List ℕ) (p : Promise file noRows conc flow a t conc' flow') where
+  -- the number is 0: both work slices are long enough
+  work-by : (b : Bool) → workFits (length conc) (length flow) ≡ b → a .number ≡ 0 → workFits (length conc) (length flow) ≡ true
+  unfolding answerOf need refusal refuse
+  work-by true e z = e
+  work-by false e z = let q : a ≡ refusal (refuse 9 0) = p .answers ∙ rw e in absurd (omega (arith, ap (λ (b : Answer). b .number) q, z))
 
-  -- a file that leaves no rows: refused, or with too few cells lent for them
-  stops-by : (a b : Bool) → eqb (w .fault .number) 0 ≡ a → leb (7 * w .lines) (length rows) ≡ b → (faultBy a b .number ≡ 0 → ⊥) → Settled file rows (refusal (faultBy a b)) rows (cells []) (cells [])
-  unfolding need fine answerFrom rowsFrom cellsFrom rowsFit
-  stops-by false b e l n = let o = p .refuses n in record { answers = rw o; leaves = rw o; concentrationsHold = rw o; flowsHold = rw o }
-  stops-by true false e l n =
-      let k = p .ends (eqb-true (w .fault .number) 0 e) in
-      let m : leb (7 * length (k .lines)) (length rows) ≡ false = ap (λ (i : ℕ). leb (7 * i) (length rows)) (sym (k .count)) ∙ l in
-      record { answers = rw (k .accepted, m); leaves = rw (k .accepted, m); concentrationsHold = rw (k .accepted, m); flowsHold = rw (k .accepted, m) }
-  stops-by true true e l n = absurd (n refl)
+  work-fits : a .number ≡ 0 → workFits (length conc) (length flow) ≡ true
+  work-fits z = work-by (workFits (length conc) (length flow)) refl z
 
-  fits-by : (a b : Bool) → eqb (w .fault .number) 0 ≡ a → leb (7 * w .lines) (length rows) ≡ b → faultBy a b .number ≡ 0 → (w .fault .number ≡ 0) × (leb (7 * w .lines) (length rows) ≡ true)
-  unfolding need refuse
-  fits-by false b e l z = absurd (eqb-false (w .fault .number) 0 e z)
-  fits-by true false e l z = absurd (omega arith)
-  fits-by true true e l z = (eqb-true (w .fault .number) 0 e, l)
+  lengths-by : (b d : Bool) → leb 2_208 (length conc) ≡ b → leb 2_208 (length flow) ≡ d → workFits (length conc) (length flow) ≡ true → (2_208 ≤ length conc) × (2_208 ≤ length flow)
+  unfolding workFits
+  lengths-by true true e f w = (leb-true 2_208 (length conc) e, leb-true 2_208 (length flow) f)
+  lengths-by true false e f w = absurd (true≢false (sym w ∙ rw (e, f)))
+  lengths-by false d e f w = absurd (true≢false (sym w ∙ rw e))
 
-  module _ (f : Fault) (q : f ≡ settledFault w (length rows)) where
-    pub settled-stopped : (f .number ≡ 0 → ⊥) → (r : Answer) (conc' flow' : List ℕ) → r ≡ refusal f → conc' ≡ cells [] → flow' ≡ cells [] → Settled file rows r rows conc' flow'
-    unfolding first
-    settled-stopped n r conc' flow' e c l =
-        rw (e, c, l, q) (stops-by (eqb (w .fault .number) 0) (leb (7 * w .lines) (length rows)) refl refl (λ z. n (ap (λ (x : Fault). x .number) q ∙ z)))
+  pub lent : a .number ≡ 0 → (2_208 ≤ length conc) × (2_208 ≤ length flow)
+  lent z = lengths-by (leb 2_208 (length conc)) (leb 2_208 (length flow)) refl refl (work-fits z)
 
-    fits-rows : f .number ≡ 0 → (w .fault .number ≡ 0) × (leb (7 * w .lines) (length rows) ≡ true)
-    unfolding first
-    fits-rows z = fits-by (eqb (w .fault .number) 0) (leb (7 * w .lines) (length rows)) refl refl (sym (ap (λ (x : Fault). x .number) q) ∙ z)
+  lines-of : a .number ≡ 0 → Stated file noRows a t
+  lines-of z = stated file noRows a t conc flow conc' flow' p z
 
-    -- the cells that are copied are there
-    pub lent-rows : f .number ≡ 0 → (length out ≡ 336) × (7 * w .lines ≤ length out) × (7 * w .lines ≤ length rows)
-    lent-rows z =
-        let b = fits-rows z in
-        let e = p .ends (b .0) in
-        (e .outLong, omega (arith, e .most, e .count, e .outLong), leb-true (7 * w .lines) (length rows) (b .1))
+  rows-are : (z : a .number ≡ 0) → a .rows ≡ length (lines-of z .lines)
+  unfolding acceptance
+  rows-are z = ap (λ (b : Answer). b .rows) (lines-of z .answers)
 
-    pub settled-0 : f .number ≡ 0 → (r : Answer) (rows' : List ℕ) → r ≡ answered w → rows' ≡ over (λ k. getD out k 0) (7 * w .lines) rows → Settled file rows r rows' conc flow
-    settled-0 z r rows' a s = let b = fits-rows z in ended-settled file rows out conc flow w (p .ends (b .0)) (b .1) r rows' a s
+  pub rows-most : a .number ≡ 0 → 7 * a .rows ≤ 336
+  rows-most z = omega (arith, rows-are z, lines-of z .most)
+
+  pub table-long : a .number ≡ 0 → length t ≡ 336
+  table-long z =
+      let s = lines-of z in
+      ap length (s .leaves) ∙ length-append (rowsOf (s .lines)) (drop (7 * length (s .lines)) noRows)
+      ∙ omega (arith, rows-long (s .lines), length-drop (7 * length (s .lines)) noRows, no-rows-long, s .most)
+
+  fits-table : (z : a .number ≡ 0) → leb (7 * length (lines-of z .lines)) (length noRows) ≡ true
+  fits-table z = le-leb (7 * length (lines-of z .lines)) (length noRows) (omega (arith, lines-of z .most, no-rows-long))
+
+  conc-held : (z : a .number ≡ 0) → conc' ≡ concentrationCells (lines-of z .lines) ++ drop 2_208 conc
+  unfolding workAfter cellsFrom rowsFit need
+  conc-held z = p .concentrationsHold ∙ rw (work-fits z, lines-of z .accepted, fits-table z)
+
+  flow-held : (z : a .number ≡ 0) → flow' ≡ flowCells (lines-of z .lines) ++ drop 2_208 flow
+  unfolding workAfter cellsFrom rowsFit need
+  flow-held z = p .flowsHold ∙ rw (work-fits z, lines-of z .accepted, fits-table z)
+
+  module _ (rows : List ℕ) where
+    stops-by : (b : Bool) → workFits (length conc) (length flow) ≡ b → (a .number ≡ 0 → ⊥) → Promise file rows conc flow a rows conc' flow'
+    unfolding answerOf rowsAfter workAfter answerFrom rowsFrom cellsFrom need
+    stops-by false e n =
+        record { answers = p .answers ∙ rw e; leaves = rw e; concentrationsHold = p .concentrationsHold ∙ rw e; flowsHold = p .flowsHold ∙ rw e }
+    stops-by true e n =
+        let d = denied file noRows a t conc flow conc' flow' p (omega (arith, no-rows-long)) e n in
+        record {
+          answers = d .answers ∙ rw (e, d .refused);
+          leaves = rw (e, d .refused);
+          concentrationsHold = p .concentrationsHold ∙ rw (e, d .refused);
+          flowsHold = p .flowsHold ∙ rw (e, d .refused);
+        }
+
+    -- the walk refuses
+    pub promise-refused : (a .number ≡ 0 → ⊥) → Promise file rows conc flow a rows conc' flow'
+    promise-refused n = stops-by (workFits (length conc) (length flow)) refl n
+
+    -- 8: the file is accepted, and too few cells are lent for its rows
+    pub promise-8 : (z : a .number ≡ 0) → length rows < 7 * a .rows → (r : Answer) (cs fs : List ℕ) → length conc' ≡ length conc → length flow' ≡ length flow
+        → r ≡ refusal (refuse 8 0) → cs ≡ cells [] ++ drop 2_208 conc' → fs ≡ cells [] ++ drop 2_208 flow' → Promise file rows conc flow r rows cs fs
+    unfolding answerOf rowsAfter workAfter answerFrom rowsFrom cellsFrom rowsFit need
+    promise-8 z l r cs fs lc lf q c f =
+        let s = lines-of z in
+        let n : leb (7 * length (s .lines)) (length rows) ≡ false = lt-leb (7 * length (s .lines)) (length rows) (omega (arith, rows-are z, l)) in
+        let k = work-fits z in
+        record {
+          answers = q ∙ rw (k, s .accepted, n);
+          leaves = rw (k, s .accepted, n);
+          concentrationsHold = c ∙ ap (λ (x : List ℕ). cells [] ++ x) (past-kept (concentrationCells (s .lines)) conc conc' (conc-held z) lc (lent z .0)) ∙ rw (k, s .accepted, n);
+          flowsHold = f ∙ ap (λ (x : List ℕ). cells [] ++ x) (past-kept (flowCells (s .lines)) flow flow' (flow-held z) lf (lent z .1)) ∙ rw (k, s .accepted, n);
+        }
+
+    -- the file is accepted, and its rows are copied
+    pub promise-0 : (z : a .number ≡ 0) (m : ℕ) → m ≡ 7 * a .rows → m ≤ length rows → (rows' : List ℕ)
+        → rows' ≡ over (λ k. getD (take (m - 0) (drop 0 t)) k 0) (min (length (take (m - 0) (drop 0 t))) (length rows)) rows → Promise file rows conc flow a rows' conc' flow'
+    unfolding answerOf rowsAfter workAfter answerFrom rowsFrom cellsFrom rowsFit need
+    promise-0 z m e l rows' o =
+        let s = lines-of z in
+        let n : leb (7 * length (s .lines)) (length rows) ≡ true = le-leb (7 * length (s .lines)) (length rows) (omega (arith, rows-are z, l, e)) in
+        let k = work-fits z in
+        record {
+          answers = s .answers ∙ rw (k, s .accepted, n);
+          leaves = copied (s .lines) t rows rows' m (omega (arith, rows-are z, e)) (s .leaves) l o ∙ rw (k, s .accepted, n);
+          concentrationsHold = conc-held z ∙ rw (k, s .accepted, n);
+          flowsHold = flow-held z ∙ rw (k, s .accepted, n);
+        }

@@ -1,0 +1,34 @@
+// Lists of cells: cleared, and written from the front.
+ghost use mathlib.Core.Path.{_≡_};
+ghost use Prim.Native.Nat.{min};
+ghost use lib.ListN.{length, getD};
+ghost use Rattle.law.specs.Words.{table, over};
+
+// Every cell becomes 0.
+pub fn clear(cells: &mut [u32])
+    ensures { λ _. ⌜ now (cells .exit) ≡ table (λ h. 0) (length (now (cells .entry))) ⌝ }
+{
+    let mut i: usize = 0;
+    while i < cells.len() {
+        cells[i] = 0;
+        i += 1;
+    }
+}
+
+fn lesser(a: usize, b: usize) -> usize
+    ensures { λ r. ⌜ r ≡ min a b ⌝ }
+{
+    if a <= b { a } else { b }
+}
+
+// The figures into the first cells, as many as there are of both.
+pub fn put_figures(figures: &[u64], cells: &mut [u64])
+    ensures { λ _. ⌜ now (cells .exit) ≡ over (λ k. getD (now (figures .entry)) k 0) (min (length (now (figures .entry))) (length (now (cells .entry)))) (now (cells .entry)) ⌝ }
+{
+    let n = lesser(figures.len(), cells.len());
+    let mut i: usize = 0;
+    while i < n {
+        cells[i] = figures[i];
+        i += 1;
+    }
+}

@@ -1,6 +1,0 @@
--- What the private functions of `quarter` promise each other. The promise of the account call itself is `Promise` of the crate `rules`.
-pub mod Views
-pub mod Books
-pub mod Closing
-pub mod Taking
-pub mod Walking

@@ -1,0 +1,242 @@
+-- The end of a line: its grams, its row and its cells are those of the rules. Assumes nothing.
+use mathlib.Core.Path.{_≡_, refl, _∙_, sym, ap, ap₂, subst}
+use mathlib.Core.Bool.{Bool, true, false}
+use mathlib.Core.List.{List, [], _∷_, _++_, map, append-assoc}
+use Prim.Native.Nat.{ℕ, suc, _+_, _-_, _*_, _^_, _<_, _≤_}
+use native.Mathlib.Omega.{arith}
+use native.Mathlib.Nat.{lt-of-le-of-lt}
+use native.Mathlib.Decide.{decLt}
+use lib.ListN.{length, take, drop, getD, length-append, length-map, length-take, length-drop, List·getD-eq-default}
+use lib.Seq.{take-at, drop-at, drop-drop}
+use lib.Dec.{eqb, lit<}
+use borrow.Author.Tests.{eqb-true, eqb-false, eq-eqb, ne-eqb}
+use Rattle.law.specs.Words.{need, pick, sumOf, table, over, halvesUp}
+use Rattle.law.proofs.Tables.{table-length, table-at}
+use Rattle.rules.specs.declared.Head.{Head}
+use Rattle.rules.specs.declared.View.{View}
+use Rattle.rules.specs.declared.Coefficients.the-variants.{NoEntry}
+use Rattle.rules.specs.Hours.{running, lacking, runMasks, measuredMasks, firstMissing}
+use Rattle.rules.specs.Lines.{Line, surveyed, surveys, fuel}
+use Rattle.rules.specs.Method.{methodOf, method}
+use Rattle.rules.specs.Tables.{coefficientsOf}
+use Rattle.rules.specs.Fill.{Values, zeroes, cs, ls, filled, unfilled}
+use Rattle.rules.specs.Grams.{hourly, amount, surveyValues, automatic, manual, fuelGrams, sulphurOf, grams}
+use Rattle.rules.specs.Row.{rowOf, rowsOf, totalOf, held, cells, concentrationCells, flowCells}
+use Rattle.rules.specs.Walk.{Between, Inside, viewOf}
+use Rattle.rules.proofs.Method.{grams-automatic, grams-manual, grams-fuel}
+use Rattle.answers.proofs.Rows.{rows-long}
+use Rattle.fills.specs.Gaps.{filledCells}
+use Rattle.fills.specs.Weights.{products}
+use Rattle.fills.proofs.Products.{products-amounts}
+use Rattle.fuel.specs.Fuel.{ashOf, fuelFigure}
+use Rattle.fuel.proofs.Batches.{InRange}
+use Rattle.fuel.proofs.Figures.{line-figure, grams-fit}
+use Rattle.walk.specs.declared.books.Sums.{Sums}
+use Rattle.walk.specs.declared.take.Taken.{Taken}
+use Rattle.walk.specs.Views.{afterEnd}
+use Rattle.walk.specs.Books.{noRows, patched, valuesAt, Bounded, LineBooks, Kept}
+use Rattle.walk.specs.Closing.{gramsIn, periodStates, periodWeight, Limits, LineGrams, withGrams}
+use Rattle.walk.specs.Taking.{viewMethod, rowIn, EndTaken}
+use Rattle.walk.proofs.Views.{survey-count, view-end}
+use Rattle.walk.proofs.Filled.{unfilled-concentrations, unfilled-flows, filled-concentrations, filled-flows, held-length, held-cells}
+use Rattle.walk.proofs.Cleared.{cells-past}
+use Rattle.walk.proofs.Closed.{period-products, share-most}
+use Rattle.walk.proofs.Standing.{patched-length}
+use Rattle.walk.proofs.Steps.{surveyed-most}
+
+-- the method of the view is the line's
+pub method-is : (x : Line) (done : List Line) → viewMethod (viewOf (Inside x done)) ≡ method x
+unfolding viewOf method surveys
+method-is x done =
+    ap₂ (λ (a b : ℕ). methodOf (x .head) (a + b) (running (x .days)) (lacking (x .days))) (survey-count (x .enforcement)) (survey-count (x .plant))
+
+-- a line's cells are within the limits
+table-most : (f : ℕ → ℕ) (M : ℕ) → ((h : ℕ) → f h ≤ M) → (h : ℕ) → Dec (h < 2_208) → getD (table f 2_208) h 0 ≤ M
+table-most f M m h (yes l) = subst (λ (n : ℕ). n ≤ M) (sym (table-at f 2_208 h 0 l)) (m h)
+table-most f M m h (no l) = subst (λ (n : ℕ). n ≤ M) (sym (List·getD-eq-default (table f 2_208) 0 (let e : length (table f 2_208) ≤ h = omega (arith, table-length f 2_208) in e))) (omega arith)
+
+pub table-limits : (x : Line) → Bounded x → Limits (table (λ h. valuesAt x h .c) 2_208) (table (λ h. valuesAt x h .l) 2_208)
+table-limits x b =
+    record {
+      concentrations = λ h. table-most (λ k. valuesAt x k .c) 1_000_000 (b .concentrations) h (decLt h 2_208);
+      flows = λ h. table-most (λ k. valuesAt x k .l) 5_000_000 (b .flows) h (decLt h 2_208);
+    }
+
+pub in-range : (x : Line) → Bounded x → InRange (x .batches)
+in-range x b = record { kg = b .fuelMost; sulphur = b .sulphurMost; ash = b .ashMost }
+
+module _ (x : Line) (b : Bounded x) (all-days : length (x .days) ≡ x .head .days) where
+  few : length (x .days) ≤ 92
+  few = omega (arith, b .period)
+
+  -- ---- method 1: what is weighed is the sum of the filled hours
+  weighed : periodWeight (length (x .days)) (filledCells (periodStates (runMasks (x .days)) (measuredMasks (x .days)) (length (x .days))) (table (λ h. valuesAt x h .c) 2_208)) (filledCells (periodStates (runMasks (x .days)) (measuredMasks (x .days)) (length (x .days))) (table (λ h. valuesAt x h .l) 2_208))
+      ≡ sumOf amount (hourly filled x)
+  weighed = ap₂ products (filled-concentrations x few .0) (filled-flows x few .0) ∙ sym (products-amounts (hourly filled x))
+
+-- ---- what each method leaves
+pub record Closes (x : Line) (conc' flow' : List ℕ) (g : ℕ) : Type 0 where
+  pub figure : g ≡ grams x
+  pub concentrations : conc' ≡ cells (cs (held x))
+  pub flows : flow' ≡ cells (ls (held x))
+
+held-filled : (x : Line) → eqb (method x) 1 ≡ true → held x ≡ hourly filled x
+unfolding held pick
+held-filled x t = rw t
+
+held-plain : (x : Line) → eqb (method x) 1 ≡ false → held x ≡ hourly unfilled x
+unfolding held pick
+held-plain x t = rw t
+
+-- ---- the row goes behind the rows
+seven : (a b c d e f g : ℕ) → table (λ i. getD (a ∷ b ∷ c ∷ d ∷ e ∷ f ∷ g ∷ []) i 0) 7 ≡ a ∷ b ∷ c ∷ d ∷ e ∷ f ∷ g ∷ []
+unfolding table
+seven a b c d e f g = refl
+
+row-same : (a b c d e f g a' b' c' d' e' f' g' : ℕ) → a ≡ a' → b ≡ b' → c ≡ c' → d ≡ d' → e ≡ e' → f ≡ f' → g ≡ g'
+    → a ∷ b ∷ c ∷ d ∷ e ∷ f ∷ g ∷ [] ≡ a' ∷ b' ∷ c' ∷ d' ∷ e' ∷ f' ∷ g' ∷ []
+row-same a b c d e f g a' b' c' d' e' f' g' i j k l m n o = cc
+
+row-behind : (n : ℕ) (row rows rest out out' : List ℕ) (w : ℕ → ℕ) → length rows ≡ n → out ≡ rows ++ drop n rest → table w 7 ≡ row → out' ≡ patched w 7 n out → out' ≡ (rows ++ row) ++ drop (n + 7) rest
+row-behind n row rows rest out out' w l r e o =
+    o ∙ ap (patched w 7 n) r
+    ∙ ap₂ (λ (s t : List ℕ). s ++ over w 7 t) (take-at rows (drop n rest) n l) (drop-at rows (drop n rest) n l)
+    ∙ ap₂ (λ (s t : List ℕ). rows ++ (s ++ t)) e (drop-drop 7 n rest)
+    ∙ sym (append-assoc rows row (drop (n + 7) rest))
+
+module _ (x : Line) (done : List Line) (v : View) (s : Sums) (runs measured flags conc flow out : List ℕ)
+    (k : Kept (Inside x done) v s runs measured flags conc flow out) (all-days : length (x .days) ≡ x .head .days)
+    (entry : (method x ≡ 1 → ⊥) → (method x ≡ 2 → ⊥) → coefficientsOf (x .head) ≡ NoEntry → ⊥)
+  where
+    b : Bounded x
+    b = k .books .bounded
+
+    abbrev lineStates : List ℕ
+    lineStates = periodStates (runMasks (x .days)) (measuredMasks (x .days)) (v .head .days)
+
+    abbrev lineFirst : ℕ
+    lineFirst = firstMissing (runMasks (x .days)) (measuredMasks (x .days)) (v .head .days)
+
+    v-head : v .head ≡ x .head
+    unfolding viewOf
+    v-head = ap (λ (w : View). w .head) (k .view)
+
+    v-running : v .running ≡ running (x .days)
+    unfolding viewOf
+    v-running = ap (λ (w : View). w .running) (k .view)
+
+    v-missing : v .missing ≡ lacking (x .days)
+    unfolding viewOf
+    v-missing = ap (λ (w : View). w .missing) (k .view)
+
+    v-lines : v .lines ≡ length done
+    unfolding viewOf
+    v-lines = ap (λ (w : View). w .lines) (k .view)
+
+    v-fuel : v .fuel ≡ fuel (x .batches)
+    unfolding viewOf
+    v-fuel = ap (λ (w : View). w .fuel) (k .view)
+
+    v-method : viewMethod v ≡ method x
+    v-method = ap viewMethod (k .view) ∙ method-is x done
+
+    v-days : v .head .days ≡ length (x .days)
+    v-days = ap (λ (h : Head). h .days) v-head ∙ sym all-days
+
+    fuel-figure : fuelFigure (v .head) (v .fuel) (s .sulphur) (s .ash) ≡ fuelFigure (x .head) (fuel (x .batches)) (sulphurOf (x .batches)) (ashOf (x .batches))
+    fuel-figure = rw (v-head, v-fuel, k .books .sulphurKept, k .books .ashKept)
+
+    module _ (conc' flow' : List ℕ) (g : ℕ) (l : LineGrams (viewMethod v) v s lineStates conc flow conc' flow' g) where
+      closes-by : (p q : Bool) → eqb (method x) 1 ≡ p → eqb (method x) 2 ≡ q → Closes x conc' flow' g
+      unfolding automatic manual
+      closes-by true q t u =
+          let z = eqb-true (method x) 1 t in
+          let f = l .automatic (v-method ∙ z) in
+          let state : ℕ → List ℕ = λ n. periodStates (runMasks (x .days)) (measuredMasks (x .days)) n in
+          let c : conc' ≡ filledCells (state (length (x .days))) (table (λ h. valuesAt x h .c) 2_208) = f .concentrations ∙ ap₂ (λ (n : ℕ) (t : List ℕ). filledCells (state n) t) v-days (k .books .concKept) in
+          let d : flow' ≡ filledCells (state (length (x .days))) (table (λ h. valuesAt x h .l) 2_208) = f .flows ∙ ap₂ (λ (n : ℕ) (t : List ℕ). filledCells (state n) t) v-days (k .books .flowKept) in
+          record {
+            figure =
+                f .grams ∙ ap (λ (n : ℕ). halvesUp (periodWeight n conc' flow') 100_000) v-days
+                ∙ ap₂ (λ (i j : List ℕ). halvesUp (periodWeight (length (x .days)) i j) 100_000) c d
+                ∙ ap (λ (n : ℕ). halvesUp n 100_000) (weighed x b all-days) ∙ sym (grams-automatic x z);
+            concentrations = c ∙ filled-concentrations x (few x b all-days) .1 ∙ ap (λ (w : List Values). cells (cs w)) (sym (held-filled x t));
+            flows = d ∙ filled-flows x (few x b all-days) .1 ∙ ap (λ (w : List Values). cells (ls w)) (sym (held-filled x t));
+          }
+      closes-by false true t u =
+          let f = l .manual (v-method ∙ eqb-true (method x) 2 u) in
+          record {
+            figure = f .2 ∙ rw (k .books .weightKept, k .books .surveyedKept, v-running) refl ∙ sym (grams-manual x (eqb-true (method x) 2 u));
+            concentrations = f .0 ∙ k .books .concKept ∙ unfilled-concentrations x (few x b all-days) ∙ ap (λ (w : List Values). cells (cs w)) (sym (held-plain x t));
+            flows = f .1 ∙ k .books .flowKept ∙ unfilled-flows x (few x b all-days) ∙ ap (λ (w : List Values). cells (ls w)) (sym (held-plain x t));
+          }
+      closes-by false false t u =
+          let n = eqb-false (method x) 1 t in
+          let m = eqb-false (method x) 2 u in
+          let f = l .fuel (λ e. n (sym v-method ∙ e)) (λ e. m (sym v-method ∙ e)) in
+          record {
+            figure = f .2 ∙ ap gramsIn (fuel-figure ∙ line-figure (x .head) (x .batches) (in-range x b) (entry n m)) ∙ sym (grams-fuel x n m);
+            concentrations = f .0 ∙ k .books .concKept ∙ unfilled-concentrations x (few x b all-days) ∙ ap (λ (w : List Values). cells (cs w)) (sym (held-plain x t));
+            flows = f .1 ∙ k .books .flowKept ∙ unfilled-flows x (few x b all-days) ∙ ap (λ (w : List Values). cells (ls w)) (sym (held-plain x t));
+          }
+
+      closes : Closes x conc' flow' g
+      closes = closes-by (eqb (method x) 1) (eqb (method x) 2) refl refl
+
+    module _ (conc' flow' out' : List ℕ) (r : Taken) (e : EndTaken v s lineStates lineFirst conc flow out conc' flow' out' r) where
+      shut : Closes x conc' flow' (e .grams)
+      shut = closes conc' flow' (e .grams) (e .figures)
+
+      row-is : rowIn v (viewMethod v) (e .grams) lineFirst ≡ rowOf x
+      unfolding rowOf
+      row-is =
+          row-same _ _ _ _ _ _ _ _ _ _ _ _ _ _ (ap (λ (h : Head). h .stack) v-head) (ap (λ (h : Head). h .pollutant) v-head)
+          v-method (shut .figure) v-running v-missing (ap (firstMissing (runMasks (x .days)) (measuredMasks (x .days))) v-days)
+
+      rows-now : out' ≡ (rowsOf done ++ rowOf x) ++ drop (7 * suc (length done)) noRows
+      rows-now =
+          let n : 7 * length done + 7 ≡ 7 * suc (length done) = omega arith in
+          let w : ℕ → ℕ = λ i. getD (rowIn v (viewMethod v) (e .grams) lineFirst) i 0 in
+          row-behind (7 * length done) (rowOf x) (rowsOf done) noRows out out' w (rows-long done) (k .rows) (seven _ _ _ _ _ _ _ ∙ row-is)
+          (e .outNow ∙ ap (λ (i : ℕ). patched w 7 (7 * i) out) v-lines)
+          ∙ ap (λ (i : ℕ). (rowsOf done ++ rowOf x) ++ drop i noRows) n
+
+      total-now : (p t : ℕ) → t ≡ totalOf p done → need 0 (eqb (v .head .pollutant) p) (e .grams) + t ≡ totalOf p (x ∷ done)
+      unfolding totalOf sumOf
+      total-now p t q = ap₂ (λ (i : ℕ) (j : ℕ). need 0 (eqb i p) j + t) (ap (λ (h : Head). h .pollutant) v-head) (shut .figure) ∙ ap (λ (i : ℕ). need 0 (eqb (x .head .pollutant) p) (grams x) + i) q
+
+      total-most : (p t : ℕ) → t ≤ length done * 20_000_000_000_000 → need 0 (eqb (v .head .pollutant) p) (e .grams) + t ≤ suc (length done) * 20_000_000_000_000
+      total-most p t l = omega (arith, share-most (v .head .pollutant) p (e .grams) (need 0 (eqb (v .head .pollutant) p) (e .grams)) refl, e .small)
+
+      pub kept-end : Kept (Between (x ∷ done)) (r .view) (r .sums) runs measured flags conc' flow' out'
+      unfolding rowsOf concentrationCells flowCells cs ls
+      kept-end =
+          let c = shut .concentrations in
+          let l = shut .flows in
+          let used : r .sums .used ≡ 24 * x .head .days = ap (λ (u : Sums). u .used) (e .sums) ∙ k .books .usedKept in
+          record {
+            view = e .view ∙ ap afterEnd (k .view) ∙ view-end x done;
+            lines = omega (arith, k .lines);
+            rows = rows-now;
+            total1 = ap (λ (u : Sums). u .total1) (e .sums) ∙ total-now 1 (s .total1) (k .total1);
+            total2 = ap (λ (u : Sums). u .total2) (e .sums) ∙ total-now 2 (s .total2) (k .total2);
+            total3 = ap (λ (u : Sums). u .total3) (e .sums) ∙ total-now 3 (s .total3) (k .total3);
+            most1 = omega (arith, ap (λ (u : Sums). u .total1) (e .sums), total-most 1 (s .total1) (k .most1));
+            most2 = omega (arith, ap (λ (u : Sums). u .total2) (e .sums), total-most 2 (s .total2) (k .most2));
+            most3 = omega (arith, ap (λ (u : Sums). u .total3) (e .sums), total-most 3 (s .total3) (k .most3));
+            runsLong = k .runsLong;
+            measuredLong = k .measuredLong;
+            flagsLong = k .flagsLong;
+            concLong = ap length c ∙ held-cells x (λ w. w .c) (few x (k .books .bounded) all-days);
+            flowLong = ap length l ∙ held-cells x (λ w. w .l) (few x (k .books .bounded) all-days);
+            outLong = ap length (e .outNow) ∙ patched-length _ 7 (7 * v .lines) out (omega (arith, v-lines, k .lines, k .outLong)) ∙ k .outLong;
+            books =
+                record {
+                  concHeld = c;
+                  flowHeld = l;
+                  usedMost = omega (arith, used, k .books .bounded .period);
+                  flagsPast = λ h m. k .books .flagsPast h (omega (arith, used, m));
+                  concPast = λ h m. ap (λ (t : List ℕ). getD t h 0) c ∙ cells-past (map (λ w. w .c) (held x)) (r .sums .used) h (omega (arith, used, k .books .bounded .days, length-map (held x) (λ w. w .c), held-length x)) m;
+                  flowPast = λ h m. ap (λ (t : List ℕ). getD t h 0) l ∙ cells-past (map (λ w. w .l) (held x)) (r .sums .used) h (omega (arith, used, k .books .bounded .days, length-map (held x) (λ w. w .l), held-length x)) m;
+                };
+          }

@@ -1,0 +1,221 @@
+-- The end of a line: what the cells hold then, filled or not, and what is weighed. Assumes nothing.
+use mathlib.Core.Path.{_≡_, refl, _∙_, sym, ap, ap₂, subst}
+use mathlib.Core.List.{List, [], _∷_, _++_, map, reverse}
+use Prim.Native.Nat.{ℕ, zero, suc, _+_, _-_, _*_, _/_, _%_, _<_, _≤_}
+use native.Mathlib.Omega.{arith}
+use lib.ListN.{length, length-append, take, drop, getD, replicate, length-take, length-drop, length-map, length-replicate, take-append-drop, getD-replicate, List·getD-map}
+use lib.Seq.{getD-take, getD-drop, ext-getD}
+use lib.Dec.{eqb}
+use Rattle.law.specs.Words.{pick, sumOf, table, largest}
+use Rattle.law.proofs.Tests.{pick-case}
+use Rattle.law.proofs.Tables.{table-length, table-at, table-is}
+use Rattle.rules.specs.declared.Pair.{Pair}
+use Rattle.rules.specs.declared.Survey.{Survey}
+use Rattle.rules.specs.Slots.{Slot, valid, missing, stopped, mapSlot, entry, entries}
+use Rattle.rules.specs.Hours.{slotsOf, runMasks, measuredMasks}
+use Rattle.rules.specs.Lines.{Line, surveyAt, replaced, replacedFrom, hours}
+use Rattle.rules.specs.Fill.{Values, zeroes, cs, ls, fill, meanUp, same, filled, unfilled}
+use Rattle.rules.specs.Grams.{valuesOf, slots, hourly, amount}
+use Rattle.rules.specs.Method.{method}
+use Rattle.rules.specs.Row.{cells, held}
+use Rattle.hours.specs.States.{stateAt}
+use Rattle.hours.proofs.Days.{length-slots}
+use Rattle.hours.proofs.Laws.{stateIn, slotIn, state-slot}
+use Rattle.fills.specs.Gaps.{slotAt, hoursIn, slotsIn, filledCells}
+use Rattle.fills.proofs.Entries.{entries-length, line-at}
+use Rattle.fills.proofs.Filled.{filled-length, filled-line, filled-rest}
+use Rattle.fills.proofs.States.{hours-all, slots-length}
+use Rattle.fills.proofs.Alone.{cs-alone, ls-alone}
+use Rattle.walk.specs.Books.{plain, valuesAt}
+use Rattle.walk.proofs.Hours.{past-zero}
+
+-- ---- an hour of the line after step 1
+replaced-length : (x : Line) (k : ℕ) (os : List (Slot Pair)) → length (replacedFrom x k os) ≡ length os
+unfolding replacedFrom
+replaced-length x k [] = refl
+replaced-length x k (o ∷ os) = ap suc (replaced-length x (k + 1) os)
+
+replaced-at : (x : Line) (k : ℕ) (os : List (Slot Pair)) (h : ℕ) → h < length os → getD (replacedFrom x k os) h stopped ≡ replaced x (k + h) (getD os h stopped)
+unfolding replacedFrom
+replaced-at x k [] h l = absurd (omega arith)
+replaced-at x k (o ∷ os) zero l = ap (λ (j : ℕ). replaced x j o) (let e : k ≡ k + 0 = omega arith in e)
+replaced-at x k (o ∷ os) (suc h) l =
+    replaced-at x (k + 1) os h (omega arith) ∙ ap (λ (j : ℕ). replaced x j (getD os h stopped)) (let e : k + 1 + h ≡ k + suc h = omega arith in e)
+
+module _ (x : Line) where
+  abbrev N : ℕ
+  N = 24 * length (x .days)
+
+  abbrev slotNow : ℕ → Slot Pair
+  slotNow h = replaced x h (getD (slotsOf (x .days)) h stopped)
+
+  hours-length : length (hours x) ≡ N
+  unfolding hours
+  hours-length = replaced-length x 0 (slotsOf (x .days)) ∙ length-slots (x .days)
+
+  hours-at : (h : ℕ) → h < N → getD (hours x) h stopped ≡ slotNow h
+  unfolding hours
+  hours-at h l =
+      replaced-at x 0 (slotsOf (x .days)) h (omega (arith, length-slots (x .days)))
+      ∙ ap (λ (j : ℕ). replaced x j (getD (slotsOf (x .days)) h stopped)) (let e : 0 + h ≡ h = omega arith in e)
+
+  slots-long : length (slots x) ≡ N
+  unfolding slots
+  slots-long = length-map (hours x) (mapSlot valuesOf) ∙ hours-length
+
+  slots-at : (h : ℕ) → h < N → getD (slots x) h stopped ≡ mapSlot valuesOf (slotNow h)
+  unfolding slots mapSlot
+  slots-at h l = List·getD-map (mapSlot valuesOf) (hours x) h stopped ∙ ap (mapSlot valuesOf) (hours-at h l)
+
+-- ---- a survey changes no hour's state
+survey-state : (h : ℕ) (ss : List Survey) (o : Slot Pair) → stateIn o ≡ 2 → stateIn (surveyAt h ss o) ≡ 2
+unfolding surveyAt stateIn
+survey-state h [] o e = e
+survey-state h (s ∷ ss) o e = pick-case (λ (t : Slot Pair). stateIn t ≡ 2) (eqb h (s .hour)) (valid (s .pair)) (surveyAt h ss o) (λ _. refl) (λ _. survey-state h ss o e)
+
+replaced-state : (x : Line) (h : ℕ) (o : Slot Pair) → stateIn (replaced x h o) ≡ stateIn o
+unfolding replaced stateIn
+replaced-state x h (valid p) = survey-state h (x .enforcement) (surveyAt h (x .plant) (valid p)) (survey-state h (x .plant) (valid p) refl)
+replaced-state x h missing = refl
+replaced-state x h stopped = refl
+
+-- a slot by its state and the value of its hour
+slot-by : (f : Values → ℕ) (o : Slot Pair) → mapSlot f (mapSlot valuesOf o) ≡ slotIn (stateIn o) (f (plain o))
+unfolding mapSlot stateIn slotIn plain pick
+slot-by f (valid p) = refl
+slot-by f missing = refl
+slot-by f stopped = refl
+
+stopped-zero : (f : Values → ℕ) → f zeroes ≡ 0 → (o : Slot Pair) → mapSlot f (mapSlot valuesOf o) ≡ stopped → f (plain o) ≡ 0
+unfolding mapSlot plain
+stopped-zero f z (valid p) e = absurd (let t : _≡_ {A = ℕ} 0 1 = cc in omega arith)
+stopped-zero f z missing e = z
+stopped-zero f z stopped e = z
+
+-- ---- one quantity f of the line's hours: states and cells are its slots
+abbrev pub lineStates : Line → List ℕ
+lineStates x = table (stateAt (runMasks (x .days)) (measuredMasks (x .days))) (24 * length (x .days))
+
+abbrev pub lineValues : (Values → ℕ) → Line → List ℕ
+lineValues f x = table (λ h. f (valuesAt x h)) 2_208
+
+module _ (x : Line) (few : length (x .days) ≤ 92) (f : Values → ℕ) (zero-f : f zeroes ≡ 0) where
+  abbrev states : List ℕ
+  states = lineStates x
+
+  abbrev values : List ℕ
+  values = lineValues f x
+
+  all-hours : hoursIn states values ≡ N x
+  all-hours =
+      hours-all states values (omega (arith, table-length (stateAt (runMasks (x .days)) (measuredMasks (x .days))) (N x), table-length (λ h. f (valuesAt x h)) 2_208))
+      (omega (arith, table-length (stateAt (runMasks (x .days)) (measuredMasks (x .days))) (N x)))
+      ∙ table-length (stateAt (runMasks (x .days)) (measuredMasks (x .days))) (N x)
+
+  slot-is : (h : ℕ) → h < N x → slotAt states values h ≡ mapSlot f (mapSlot valuesOf (slotNow x h))
+  unfolding slotAt slotIn valuesAt
+  slot-is h l =
+      ap₂ (λ (s v : ℕ). slotIn s v) (table-at (stateAt (runMasks (x .days)) (measuredMasks (x .days))) (N x) h 0 l) (table-at (λ k. f (valuesAt x k)) 2_208 h 0 (omega arith))
+      ∙ ap (λ (s : ℕ). slotIn s (f (plain (slotNow x h)))) (sym (replaced-state x h (getD (slotsOf (x .days)) h stopped) ∙ state-slot (x .days) h))
+      ∙ sym (slot-by f (slotNow x h))
+
+  slots-are : slotsIn states values ≡ map (mapSlot f) (slots x)
+  unfolding slotsIn mapSlot
+  slots-are =
+      ap (table (slotAt states values)) all-hours
+      ∙ sym (table-is (slotAt states values) (N x) stopped (map (mapSlot f) (slots x)) (length-map (slots x) (mapSlot f) ∙ slots-long x)
+      (λ h l. List·getD-map (mapSlot f) (slots x) h stopped ∙ ap (mapSlot f) (slots-at x h l) ∙ sym (slot-is h l)))
+
+  still : (h : ℕ) → h < hoursIn states values → slotAt states values h ≡ stopped → getD values h 0 ≡ 0
+  unfolding valuesAt
+  still h l e =
+      let m : h < N x = omega (arith, all-hours) in
+      table-at (λ k. f (valuesAt x k)) 2_208 h 0 (omega arith) ∙ stopped-zero f zero-f (slotNow x h) (sym (slot-is h m) ∙ e)
+
+  -- the hours behind the period hold nothing
+  pub rest-zero : drop (N x) values ≡ replicate (2_208 - N x) 0
+  rest-zero =
+      ext-getD 0 (drop (N x) values) (replicate (2_208 - N x) 0) (simp (length-drop, length-replicate) (omega (arith, table-length (λ h. f (valuesAt x h)) 2_208)))
+      (λ h l.
+      let m : N x + h < 2_208 = omega (arith, length-drop (N x) values, table-length (λ h. f (valuesAt x h)) 2_208) in
+      getD-drop (N x) values h 0 ∙ table-at (λ k. f (valuesAt x k)) 2_208 (N x + h) 0 m ∙ ap f (past-zero x (N x + h) (omega arith)) ∙ zero-f
+      ∙ sym (getD-replicate (2_208 - N x) h 0 0 (omega arith)))
+
+  -- filled: each hour's entry, and nothing behind the period
+  pub filled-cells : (es : List ℕ) → es ≡ entries (λ v. v) (fill meanUp same) 0 [] (map (mapSlot f) (slots x)) → (take (N x) (filledCells states values) ≡ es) × (filledCells states values ≡ cells es)
+  unfolding cells
+  filled-cells es e =
+      let size : length states ≡ N x = table-length (stateAt (runMasks (x .days)) (measuredMasks (x .days))) (N x) in
+      let front : take (N x) (filledCells states values) ≡ es =
+      ap (λ (k : ℕ). take k (filledCells states values)) (sym size)
+      ∙ filled-line states values still (omega (arith, size, table-length (λ h. f (valuesAt x h)) 2_208)) (omega (arith, size))
+      ∙ ap (entries (λ v. v) (fill meanUp same) 0 []) slots-are ∙ sym e in
+      let back : drop (N x) (filledCells states values) ≡ replicate (2_208 - N x) 0 =
+      ap (λ (k : ℕ). drop k (filledCells states values)) (sym all-hours) ∙ filled-rest states values ∙ ap (λ (k : ℕ). drop k values) all-hours ∙ rest-zero in
+      let long : length es ≡ N x = ap length e ∙ entries-length (λ v. v) (fill meanUp same) 0 [] (map (mapSlot f) (slots x)) ∙ length-map (slots x) (mapSlot f) ∙ slots-long x in
+      (front, sym (take-append-drop (N x) (filledCells states values)) ∙ ap₂ (λ (t u : List ℕ). t ++ u) front (back ∙ ap (λ (k : ℕ). replicate (2_208 - k) 0) (sym long)))
+
+  -- not filled: the cells as they stand
+  pub plain-cells : (es : List ℕ) → length es ≡ N x → ((h : ℕ) → h < N x → getD es h 0 ≡ f (valuesAt x h)) → values ≡ cells es
+  unfolding cells
+  plain-cells es long at =
+      let size : length values ≡ 2_208 = table-length (λ h. f (valuesAt x h)) 2_208 in
+      let front : take (N x) values ≡ es =
+      ext-getD 0 (take (N x) values) es (simp length-take (omega arith))
+      (λ h l.
+      let m : h < N x = omega (arith, simp length-take at l) in
+      getD-take (N x) values h 0 m ∙ table-at (λ k. f (valuesAt x k)) 2_208 h 0 (omega arith) ∙ sym (at h m)) in
+      sym (take-append-drop (N x) values) ∙ ap₂ (λ (t u : List ℕ). t ++ u) front (rest-zero ∙ ap (λ (k : ℕ). replicate (2_208 - k) 0) (sym long))
+
+-- ---- both quantities
+entry-plain : (before after : List (Slot Values)) (o : Slot Pair) → entry (λ v. v) unfilled zeroes before (mapSlot valuesOf o) after ≡ plain o
+unfolding entry mapSlot plain unfilled
+entry-plain before after (valid p) = refl
+entry-plain before after missing = refl
+entry-plain before after stopped = refl
+
+module _ (x : Line) (few : length (x .days) ≤ 92) where
+  unfilled-at : (h : ℕ) → h < N x → getD (hourly unfilled x) h zeroes ≡ valuesAt x h
+  unfolding hourly valuesAt
+  unfilled-at h l =
+      line-at (λ v. v) unfilled zeroes (slots x) h zeroes (omega (arith, slots-long x))
+      ∙ ap (λ (o : Slot Values). entry (λ v. v) unfilled zeroes (reverse (take h (slots x))) o (drop (h + 1) (slots x))) (slots-at x h l)
+      ∙ entry-plain (reverse (take h (slots x))) (drop (h + 1) (slots x)) (slotNow x h)
+
+  unfilled-long : (f : Values → ℕ) → length (map f (hourly unfilled x)) ≡ N x
+  unfolding hourly
+  unfilled-long f = length-map (hourly unfilled x) f ∙ entries-length (λ v. v) unfilled zeroes [] (slots x) ∙ slots-long x
+
+  pub unfilled-concentrations : table (λ h. valuesAt x h .c) 2_208 ≡ cells (cs (hourly unfilled x))
+  unfolding cs zeroes
+  unfilled-concentrations =
+      plain-cells x few (λ v. v .c) refl (cs (hourly unfilled x)) (unfilled-long (λ v. v .c))
+      (λ h l. List·getD-map (λ (v : Values). v .c) (hourly unfilled x) h zeroes ∙ ap (λ (v : Values). v .c) (unfilled-at h l))
+
+  pub unfilled-flows : table (λ h. valuesAt x h .l) 2_208 ≡ cells (ls (hourly unfilled x))
+  unfolding ls zeroes
+  unfilled-flows =
+      plain-cells x few (λ v. v .l) refl (ls (hourly unfilled x)) (unfilled-long (λ v. v .l))
+      (λ h l. List·getD-map (λ (v : Values). v .l) (hourly unfilled x) h zeroes ∙ ap (λ (v : Values). v .l) (unfilled-at h l))
+
+  pub filled-concentrations : (take (N x) (filledCells (lineStates x) (lineValues (λ v. v .c) x)) ≡ cs (hourly filled x)) × (filledCells (lineStates x) (lineValues (λ v. v .c) x) ≡ cells (cs (hourly filled x)))
+  unfolding hourly zeroes
+  filled-concentrations = filled-cells x few (λ v. v .c) refl (cs (hourly filled x)) (cs-alone (slots x))
+
+  pub filled-flows : (take (N x) (filledCells (lineStates x) (lineValues (λ v. v .l) x)) ≡ ls (hourly filled x)) × (filledCells (lineStates x) (lineValues (λ v. v .l) x) ≡ cells (ls (hourly filled x)))
+  unfolding hourly zeroes
+  filled-flows = filled-cells x few (λ v. v .l) refl (ls (hourly filled x)) (ls-alone (slots x))
+
+-- ---- a line's cells are 2,208, whatever they hold
+pub hourly-length : (x : Line) (rule : ℕ → List Values → List Values → Values) → length (hourly rule x) ≡ 24 * length (x .days)
+unfolding hourly
+hourly-length x rule = entries-length (λ v. v) rule zeroes [] (slots x) ∙ slots-long x
+
+pub held-length : (x : Line) → length (held x) ≡ 24 * length (x .days)
+unfolding held
+held-length x =
+    pick-case (λ (t : List Values). length t ≡ 24 * length (x .days)) (eqb (method x) 1) (hourly filled x) (hourly unfilled x) (λ _. hourly-length x filled) (λ _. hourly-length x unfilled)
+
+pub held-cells : (x : Line) (f : Values → ℕ) → length (x .days) ≤ 92 → length (cells (map f (held x))) ≡ 2_208
+unfolding cells
+held-cells x f l = simp (length-append, length-replicate) (omega (arith, length-map (held x) f, held-length x))

@@ -1,0 +1,83 @@
+-- The ways out of the account call, from what its walk promises. Assumes nothing.
+use mathlib.Core.Path.{_≡_, refl, _∙_, sym, ap, ap₂}
+use mathlib.Core.Bool.{Bool, true, false}
+use mathlib.Core.List.{List, [], _++_}
+use Prim.Native.Nat.{ℕ, _+_, _-_, _*_, _<_, _≤_}
+use native.Mathlib.Omega.{arith}
+use lib.ListN.{length, drop, length-replicate}
+use lib.Dec.{leb}
+use borrow.Author.Tests.{le-leb, lt-leb}
+use Rattle.law.specs.Words.{need, table, over}
+use Rattle.law.proofs.Over.{over-all}
+use Rattle.rules.specs.declared.Fault.{Fault}
+use Rattle.rules.specs.declared.Answer.{Answer}
+use Rattle.rules.specs.Lines.{Line}
+use Rattle.rules.specs.Judge.{refuse, fine, first}
+use Rattle.rules.specs.Row.{rowsOf, cells, concentrationCells, flowCells}
+use Rattle.rules.specs.Walk.{Refused, Accepted, outcome}
+use Rattle.rules.specs.Account.{refusal, acceptance, rowsFit, workFits, answerFrom, answerOf, rowsFrom, rowsAfter, cellsFrom, workAfter, Promise}
+use Rattle.walk.specs.declared.turns.Tally.{Tally}
+use Rattle.walk.specs.declared.Walked.{Walked}
+use Rattle.walk.specs.Books.{noRows}
+use Rattle.walk.specs.Walking.{stopped, Ended, WalkPromise, Settled}
+use Rattle.walk.proofs.Going.{zeros}
+
+-- ---- 9: the work slices
+fits-work : (c f : ℕ) → 2_208 ≤ c → 2_208 ≤ f → workFits c f ≡ true
+unfolding workFits
+fits-work c f a b = rw (le-leb 2_208 c a, le-leb 2_208 f b)
+
+pub short-conc : (c f : ℕ) → c < 2_208 → workFits c f ≡ false
+unfolding workFits
+short-conc c f a = rw (lt-leb 2_208 c a)
+
+pub short-flow : (c f : ℕ) → 2_208 ≤ c → f < 2_208 → workFits c f ≡ false
+unfolding workFits
+short-flow c f a b = rw (le-leb 2_208 c a, lt-leb 2_208 f b)
+
+module _ (file conc flow : List ℕ) where
+  pub promise-9 : (r : Walked) → workFits (length conc) (length flow) ≡ false → r ≡ stopped (refuse 9 0) → Promise file noRows conc flow (r .answer) (r .rows) conc flow
+  unfolding answerOf rowsAfter workAfter need
+  promise-9 r e q = rw q (record { answers = rw e; leaves = rw e; concentrationsHold = rw e; flowsHold = rw e })
+
+  -- ---- both are lent on: their first 2,208 cells come back
+  pub promise-settled : (r : Answer) (rows' cs fs : List ℕ) → 2_208 ≤ length conc → 2_208 ≤ length flow → Settled file noRows r rows' cs fs
+      → Promise file noRows conc flow r rows' (cs ++ drop 2_208 conc) (fs ++ drop 2_208 flow)
+  unfolding answerOf rowsAfter workAfter need
+  promise-settled r rows' cs fs a b s =
+      let work = fits-work (length conc) (length flow) a b in
+      record {
+        answers = s .answers ∙ rw work;
+        leaves = s .leaves ∙ rw work;
+        concentrationsHold = ap (λ (t : List ℕ). t ++ drop 2_208 conc) (s .concentrationsHold) ∙ rw work;
+        flowsHold = ap (λ (t : List ℕ). t ++ drop 2_208 flow) (s .flowsHold) ∙ rw work;
+      }
+
+-- cleared cells hold no line's hours
+pub cleared : (xs zs : List ℕ) → length xs ≡ 2_208 → zs ≡ over (λ h. 0) 2_208 xs → zs ≡ cells []
+unfolding cells
+cleared xs zs l e = e ∙ over-all (λ h. 0) 2_208 xs (omega (arith, l)) ∙ zeros 2_208
+
+no-rows-long : length noRows ≡ 336
+unfolding noRows
+no-rows-long = length-replicate {A = ℕ} 336 0
+
+module _ (file out conc flow : List ℕ) (w : Tally) (p : WalkPromise file out conc flow w) where
+  -- a file that is refused leaves no row and no cell
+  pub settled-stopped : (w .fault .number ≡ 0 → ⊥) → (r : Walked) (conc' flow' : List ℕ) → r ≡ stopped (w .fault) → conc' ≡ cells [] → flow' ≡ cells []
+      → Settled file noRows (r .answer) (r .rows) conc' flow'
+  unfolding answerFrom rowsFrom cellsFrom
+  settled-stopped n r conc' flow' e c l = let o = p .refuses n in rw (e, c, l) (record { answers = rw o; leaves = rw o; concentrationsHold = rw o; flowsHold = rw o })
+
+  -- a file that is accepted has cells enough for its rows
+  pub settled-0 : w .fault .number ≡ 0 → Settled file noRows (record { number = 0; place = 0; rows = w .lines; total1 = w .total1; total2 = w .total2; total3 = w .total3 }) out conc flow
+  unfolding answerFrom rowsFrom cellsFrom rowsFit acceptance need
+  settled-0 z =
+      let e = p .ends z in
+      let n : leb (7 * length (e .lines)) (length noRows) ≡ true = le-leb (7 * length (e .lines)) (length noRows) (omega (arith, e .most, no-rows-long)) in
+      record {
+        answers = rw (e .count, e .total1, e .total2, e .total3, e .accepted, n);
+        leaves = e .rows ∙ rw (e .accepted, n);
+        concentrationsHold = e .concHeld ∙ rw (e .accepted, n);
+        flowsHold = e .flowHeld ∙ rw (e .accepted, n);
+      }

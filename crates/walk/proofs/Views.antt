@@ -1,0 +1,62 @@
+-- The view after a record is the view of where the walk then stands. Assumes nothing.
+use mathlib.Core.Path.{_≡_, refl, sym, ap, ap₂, _∙_}
+use mathlib.Core.Bool.{false}
+use mathlib.Core.List.{List, [], _∷_}
+use Prim.Native.Nat.{ℕ, _+_}
+use native.Mathlib.Numerals.{add-one}
+use native.Mathlib.Omega.{arith}
+use lib.ListN.{length}
+use Rattle.law.specs.Words.{sumOf}
+use Rattle.rules.specs.declared.Head.{Head}
+use Rattle.rules.specs.declared.Survey.{Survey}
+use Rattle.rules.specs.declared.Surveys.{Surveys}
+use Rattle.rules.specs.declared.Batch.{Batch}
+use Rattle.rules.specs.declared.View.{View}
+use Rattle.rules.specs.Records.{Day}
+use Rattle.rules.specs.Hours.{running, lacking}
+use Rattle.rules.specs.Lines.{Line, fuel}
+use Rattle.rules.specs.Walk.{Between, Inside, noHead, viewOf, floorOf, surveysOf, begun, withDay, withEnforcement, withPlant, withBatch}
+use Rattle.record.specs.Flat.{masksOf}
+use Rattle.walk.specs.Views.{noSurveys, oneMore, openedView, afterHead, afterDay, afterEnforcement, afterPlant, afterBatch, afterEnd}
+
+pub no-surveys : surveysOf [] ≡ noSurveys
+unfolding surveysOf
+no-surveys = refl
+
+pub survey-count : (ss : List Survey) → surveysOf ss .count ≡ length ss
+unfolding surveysOf
+survey-count [] = refl
+survey-count (s ∷ ss) = refl
+
+more-surveys : (s : Survey) (ss : List Survey) → oneMore (surveysOf ss) (s .hour) ≡ surveysOf (s ∷ ss)
+unfolding surveysOf
+more-surveys s [] = refl
+more-surveys s (t ∷ ts) = ap (λ (n : ℕ). record { count = n; floor = s .hour + 1 }) (add-one (length (t ∷ ts)))
+
+pub view-start : openedView false 0 0 noHead ≡ viewOf (Between [])
+unfolding viewOf floorOf surveysOf
+view-start = refl
+
+pub view-head : (done : List Line) (h : Head) → afterHead (viewOf (Between done)) h ≡ viewOf (Inside (begun h) done)
+unfolding viewOf begun floorOf surveysOf running lacking fuel sumOf
+view-head done h = refl
+
+pub view-day : (x : Line) (done : List Line) (d : Day) → afterDay (viewOf (Inside x done)) (masksOf d) ≡ viewOf (Inside (withDay x d) done)
+unfolding viewOf withDay masksOf floorOf running lacking sumOf
+view-day x done d = rw (add-one (length (x .days)))
+
+pub view-enforcement : (x : Line) (done : List Line) (s : Survey) → afterEnforcement (viewOf (Inside x done)) (s .hour) ≡ viewOf (Inside (withEnforcement x s) done)
+unfolding viewOf withEnforcement floorOf
+view-enforcement x done s = rw (more-surveys s (x .enforcement))
+
+pub view-plant : (x : Line) (done : List Line) (s : Survey) → afterPlant (viewOf (Inside x done)) (s .hour) ≡ viewOf (Inside (withPlant x s) done)
+unfolding viewOf withPlant floorOf
+view-plant x done s = rw (more-surveys s (x .plant))
+
+pub view-batch : (x : Line) (done : List Line) (b : Batch) → afterBatch (viewOf (Inside x done)) (b .kg) ≡ viewOf (Inside (withBatch x b) done)
+unfolding viewOf withBatch floorOf fuel sumOf
+view-batch x done b = rw (add-one (length (x .batches)))
+
+pub view-end : (x : Line) (done : List Line) → afterEnd (viewOf (Inside x done)) ≡ viewOf (Between (x ∷ done))
+unfolding viewOf floorOf surveysOf
+view-end x done = rw (add-one (length done))

@@ -1,0 +1,13 @@
+-- `walk::close::share` meets its contract. Assumes nothing.
+use Rattle.law.proofs.Tests.{judged}
+use Rattle.walk.proofs.close.share.Statement.{statement}
+use Rattle.walk.proofs.close.share.Tie as tie
+
+returns : tie.Need-returns
+returns c = search judged depth 4
+
+returns-2 : tie.Need-returns-2
+returns-2 c = search judged depth 4
+
+pub share-spec : {M : Type 1} → statement M
+share-spec = tie.close (tie.spec returns returns-2)

@@ -1,0 +1,51 @@
+-- What the functions that close a line promise each other.
+use Prim.Native.Nat.{ℕ, _+_, _*_, _≤_}
+use mathlib.Core.List.{List, [], _∷_}
+use mathlib.Core.Path.{_≡_}
+use lib.ListN.{take, getD}
+use lib.Dec.{eqb}
+use Rattle.law.specs.Words.{need, table, halvesUp}
+use Rattle.hours.specs.States.{stateAt}
+use Rattle.fills.specs.Gaps.{filledCells}
+use Rattle.fills.specs.Weights.{products}
+use Rattle.rules.specs.declared.View.{View}
+use Rattle.fuel.specs.Fuel.{fuelFigure}
+use Rattle.fuel.specs.declared.FuelFigure.{FuelFigure}
+use Rattle.fuel.specs.declared.FuelFigure.the-variants.{Grams, NoEntry, OutOfRange}
+use Rattle.walk.specs.declared.books.Sums.{Sums}
+
+-- grams by fuel, and 0 for none
+abbrev pub gramsIn : FuelFigure → ℕ
+gramsIn (Grams g) = g
+gramsIn NoEntry = 0
+gramsIn OutOfRange = 0
+
+-- the states of a period's hours
+abbrev pub periodStates : List ℕ → List ℕ → ℕ → List ℕ
+periodStates runs measured days = table (stateAt runs measured) (24 * days)
+
+-- the weight of the period's cells
+abbrev pub periodWeight : ℕ → List ℕ → List ℕ → ℕ
+periodWeight days conc flow = products (take (24 * days) conc) (take (24 * days) flow)
+
+-- both quantities filled, and the grams of the filled period
+pub record FilledLine (states : List ℕ) (days : ℕ) (conc flow conc' flow' : List ℕ) (r : ℕ) : Type 0 where
+  pub concentrations : conc' ≡ filledCells states conc
+  pub flows : flow' ≡ filledCells states flow
+  pub grams : r ≡ halvesUp (periodWeight days conc' flow') 100_000
+
+-- every cell is within the limit of its quantity
+pub record Limits (conc flow : List ℕ) : Type 0 where
+  pub concentrations : (h : ℕ) → getD conc h 0 ≤ 1_000_000
+  pub flows : (h : ℕ) → getD flow h 0 ≤ 5_000_000
+
+-- the grams of a line by its method, and its cells
+pub record LineGrams (method : ℕ) (v : View) (s : Sums) (states conc flow conc' flow' : List ℕ) (r : ℕ) : Type 0 where
+  pub automatic : method ≡ 1 → FilledLine states (v .head .days) conc flow conc' flow' r
+  pub manual : method ≡ 2 → (conc' ≡ conc) × (flow' ≡ flow) × (r ≡ halvesUp (s .weight * v .running) (s .surveyed * 100_000))
+  pub fuel : (method ≡ 1 → ⊥) → (method ≡ 2 → ⊥) → (conc' ≡ conc) × (flow' ≡ flow) × (r ≡ gramsIn (fuelFigure (v .head) (v .fuel) (s .sulphur) (s .ash)))
+
+-- the totals with a line's grams more
+abbrev pub withGrams : Sums → ℕ → ℕ → Sums
+withGrams s pollutant grams =
+    record { surveyed = s .surveyed; weight = s .weight; sulphur = s .sulphur; ash = s .ash; used = s .used; total1 = need 0 (eqb pollutant 1) grams + s .total1; total2 = need 0 (eqb pollutant 2) grams + s .total2; total3 = need 0 (eqb pollutant 3) grams + s .total3 }

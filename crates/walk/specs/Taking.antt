@@ -1,0 +1,120 @@
+-- What the functions that take a record in promise each other.
+use Prim.Native.Nat.{ℕ, _+_, _*_, _<_, _≤_}
+use mathlib.Core.Bool.{Bool}
+use mathlib.Core.List.{List, [], _∷_}
+use mathlib.Core.Path.{_≡_}
+use lib.ListN.{length, getD, set}
+use lib.Dec.{eqb}
+use Rattle.law.specs.Words.{pick, table, over}
+use Rattle.reading.specs.Reading.{reading, concentrationOf, flowOf}
+use Rattle.rules.specs.declared.Head.{Head}
+use Rattle.rules.specs.declared.Survey.{Survey}
+use Rattle.rules.specs.declared.Batch.{Batch}
+use Rattle.rules.specs.declared.View.{View}
+use Rattle.rules.specs.Records.{dayOf}
+use Rattle.rules.specs.Method.{methodOf}
+use Rattle.rules.specs.Judge.{fine, judgeHours}
+use Rattle.record.specs.declared.DayMasks.{DayMasks}
+use Rattle.record.specs.Flat.{kept, concentrationAt, flowAt}
+use Rattle.walk.specs.declared.books.Sums.{Sums}
+use Rattle.walk.specs.declared.take.Taken.{Taken}
+use Rattle.walk.specs.Views.{afterHead, afterDay, afterEnforcement, afterPlant, afterBatch, afterEnd, openedSums, withSurvey, withFuel}
+use Rattle.walk.specs.Closing.{gramsIn, Limits, LineGrams, withGrams}
+use Rattle.fuel.specs.Fuel.{fuelFigure}
+use Rattle.walk.specs.Books.{patched}
+
+-- a head: cells and flags are 0
+pub record HeadTaken (v : View) (s : Sums) (h : Head) (flags conc flow flags' conc' flow' : List ℕ) (r : Taken) : Type 0 where
+  pub faults : r .fault ≡ fine
+  pub view : r .view ≡ afterHead v h
+  pub sums : r .sums ≡ openedSums s h
+  pub flagsNow : flags' ≡ over (λ k. 0) (s .used) flags
+  pub concNow : conc' ≡ over (λ k. 0) (s .used) conc
+  pub flowNow : flow' ≡ over (λ k. 0) (s .used) flow
+
+-- a day: its masks and its 24 values, unless a reading is refused
+pub record DayTaken (at : ℕ) (bytes : List ℕ) (v : View) (s : Sums) (d : DayMasks) (runs measured conc flow runs' measured' conc' flow' : List ℕ) (r : Taken) : Type 0 where
+  pub faults : r .fault ≡ judgeHours at (dayOf bytes)
+  pub view : r .fault .number ≡ 0 → r .view ≡ afterDay v d
+  pub sums : r .sums ≡ s
+  pub runsNow : r .fault .number ≡ 0 → runs' ≡ set runs (d .number) (d .run)
+  pub measuredNow : r .fault .number ≡ 0 → measured' ≡ set measured (d .number) (d .measured)
+  pub concNow : r .fault .number ≡ 0 → conc' ≡ patched (λ k. getD (table (concentrationAt (dayOf bytes)) 24) k 0) 24 (24 * d .number) conc
+  pub flowNow : r .fault .number ≡ 0 → flow' ≡ patched (λ k. getD (table (flowAt (dayOf bytes)) 24) k 0) 24 (24 * d .number) flow
+
+-- the values of a survey
+abbrev pub surveyC : Survey → ℕ
+surveyC s = kept (concentrationOf (reading (s .pair .concentration)))
+
+abbrev pub surveyL : Survey → ℕ
+surveyL s = kept (flowOf (reading (s .pair .flow)))
+
+-- the cell of hour h replaced, where the hour is measured
+abbrev pub replacedCell : Bool → ℕ → ℕ → List ℕ → List ℕ
+replacedCell measured h v cells = pick measured (set cells h v) cells
+
+-- a survey that stands, in a measured hour or another
+pub record SurveyTaken (view : View) (s : Sums) (t : Survey) (measured : Bool) (conc flow conc' flow' : List ℕ) (r : Taken) : Type 0 where
+  pub faults : r .fault ≡ fine
+  pub views : r .view ≡ view
+  pub sums : r .sums ≡ withSurvey s (surveyC t) (surveyL t)
+  pub concNow : conc' ≡ replacedCell measured (t .hour) (surveyC t) conc
+  pub flowNow : flow' ≡ replacedCell measured (t .hour) (surveyL t) flow
+
+-- an enforcement survey, in a measured hour or another
+pub record EnforcementTaken (v : View) (s : Sums) (t : Survey) (measured : Bool) (flags conc flow flags' conc' flow' : List ℕ) (r : Taken) : Type 0 where
+  pub faults : r .fault ≡ fine
+  pub view : r .view ≡ afterEnforcement v (t .hour)
+  pub sums : r .sums ≡ withSurvey s (surveyC t) (surveyL t)
+  pub flagsNow : flags' ≡ set flags (t .hour) 1
+  pub concNow : conc' ≡ replacedCell measured (t .hour) (surveyC t) conc
+  pub flowNow : flow' ≡ replacedCell measured (t .hour) (surveyL t) flow
+
+-- a plant survey, where an enforcement survey stands and where none does
+pub record PlantTaken (v : View) (s : Sums) (t : Survey) (measured : Bool) (flags conc flow conc' flow' : List ℕ) (r : Taken) : Type 0 where
+  pub faults : r .fault ≡ fine
+  pub view : r .view ≡ afterPlant v (t .hour)
+  pub sums : r .sums ≡ pick (eqb (getD flags (t .hour) 0) 1) s (withSurvey s (surveyC t) (surveyL t))
+  pub concNow : conc' ≡ pick (eqb (getD flags (t .hour) 0) 1) conc (replacedCell measured (t .hour) (surveyC t) conc)
+  pub flowNow : flow' ≡ pick (eqb (getD flags (t .hour) 0) 1) flow (replacedCell measured (t .hour) (surveyL t) flow)
+
+-- a batch
+pub record BatchTaken (v : View) (s : Sums) (b : Batch) (r : Taken) : Type 0 where
+  pub faults : r .fault ≡ fine
+  pub view : r .view ≡ afterBatch v (b .kg)
+  pub sums : r .sums ≡ withFuel s b
+
+-- the method of the open line
+abbrev pub viewMethod : View → ℕ
+viewMethod v = methodOf (v .head) (v .enforcement .count + v .plant .count) (v .running) (v .missing)
+
+-- the row of the open line
+abbrev pub rowIn : View → ℕ → ℕ → ℕ → List ℕ
+rowIn v method grams first = v .head .stack ∷ v .head .pollutant ∷ method ∷ grams ∷ v .running ∷ v .missing ∷ first ∷ []
+
+-- what closing a line asks
+pub record EndReady (v : View) (s : Sums) (conc flow : List ℕ) : Type 0 where
+  pub days : v .head .days ≤ 92
+  pub concLong : length conc ≡ 2_208
+  pub flowLong : length flow ≡ 2_208
+  pub limits : Limits conc flow
+  pub counts : v .enforcement .count + v .plant .count ≤ 120
+  pub some : viewMethod v ≡ 2 → 0 < s .surveyed
+  pub surveyed : s .surveyed ≤ 120
+  pub weight : s .weight ≤ 600_000_000_000_000
+  pub running : v .running ≤ 2_208
+  pub lines : v .lines < 48
+  pub fuel : gramsIn (fuelFigure (v .head) (v .fuel) (s .sulphur) (s .ash)) ≤ 20_000_000_000_000
+  pub total1 : s .total1 ≤ 960_000_000_000_000
+  pub total2 : s .total2 ≤ 960_000_000_000_000
+  pub total3 : s .total3 ≤ 960_000_000_000_000
+
+-- an end: the grams, the row and the totals
+pub record EndTaken (v : View) (s : Sums) (states : List ℕ) (first : ℕ) (conc flow out conc' flow' out' : List ℕ) (r : Taken) : Type 0 where
+  pub grams : ℕ
+  pub small : grams ≤ 20_000_000_000_000
+  pub figures : LineGrams (viewMethod v) v s states conc flow conc' flow' grams
+  pub faults : r .fault ≡ fine
+  pub view : r .view ≡ afterEnd v
+  pub sums : r .sums ≡ withGrams s (v .head .pollutant) grams
+  pub outNow : out' ≡ patched (λ k. getD (rowIn v (viewMethod v) grams first) k 0) 7 (7 * v .lines) out

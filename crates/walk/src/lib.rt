@@ -1,0 +1,93 @@
+// One walk over the file: the answer, the rows of all its lines, and the work cells.
+mod books; // books.rt
+mod close; // close.rt
+mod tables; // tables.rt
+mod turns; // turns.rt
+mod take; // take.rt
+
+use crate::tables::clear_both;
+use crate::turns::walk;
+use rules::Answer;
+use rules::Fault;
+ghost use mathlib.Core.Path.{_≡_};
+ghost use mathlib.Core.List.{[]};
+ghost use lib.ListN.{length};
+ghost use Rattle.rules.specs.Row.{cells};
+ghost use Rattle.rules.specs.Account.{Promise};
+ghost use Rattle.walk.specs.Books.{noRows};
+ghost use Rattle.walk.specs.Walking.{stopped, Settled};
+
+// The answer to a file, with cells for the rows of 48 lines.
+pub struct Walked {
+    pub answer: Answer,
+    pub rows: [u64; 336],
+}
+
+// "A file refusal answers number, byte offset .., row count and totals 0."
+fn refused(f: Fault) -> Walked
+    ensures { λ r. ⌜ r ≡ stopped f ⌝ }
+{
+    Walked {
+        answer: Answer {
+            number: f.number,
+            place: f.place,
+            rows: 0,
+            total1: 0,
+            total2: 0,
+            total3: 0,
+        },
+        rows: [0u64; 336],
+    }
+}
+
+// Both work tables cleared, and the refusal answered.
+fn stop(f: Fault, conc: &mut [u32], flow: &mut [u32]) -> Walked
+    requires { ⌜ (length (now conc) ≡ 2208) × (length (now flow) ≡ 2208) ⌝ }
+    ensures { λ r. ⌜ (r ≡ stopped f) × (now (conc .exit) ≡ cells []) × (now (flow .exit) ≡ cells []) ⌝ }
+{
+    clear_both(conc, flow, 2208);
+    refused(f)
+}
+
+// The walk where both work tables have 2,208 cells.
+fn settle(file: &[u8], conc: &mut [u32], flow: &mut [u32]) -> Walked
+    requires { ⌜ (length (now conc) ≡ 2208) × (length (now flow) ≡ 2208) ⌝ }
+    ensures { λ r. ⌜ Settled (now (file .entry)) noRows (r .answer) (r .rows) (now (conc .exit)) (now (flow .exit)) ⌝ }
+{
+    let mut out = [0u64; 336];
+    let w = walk(file, &mut out, conc, flow);
+    let f = w.fault;
+    if f.number != 0 {
+        return stop(f, conc, flow);
+    }
+    Walked {
+        answer: Answer {
+            number: 0,
+            place: 0,
+            rows: w.lines as usize,
+            total1: w.total1,
+            total2: w.total2,
+            total3: w.total3,
+        },
+        rows: out,
+    }
+}
+
+// The account of a file, as if 336 cleared cells were lent for its rows. No work cell past 2,208 is lent on.
+pub fn walk_file(file: &[u8], concentrations: &mut [u32], flows: &mut [u32]) -> Walked
+    ensures { λ r. ⌜ Promise (now (file .entry)) noRows (now (concentrations .entry)) (now (flows .entry)) (r .answer) (r .rows) (now (concentrations .exit)) (now (flows .exit)) ⌝ }
+{
+    if concentrations.len() < 2208 {
+        return refused(Fault {
+            number: 9,
+            place: 0,
+        });
+    }
+    if flows.len() < 2208 {
+        return refused(Fault {
+            number: 9,
+            place: 0,
+        });
+    }
+    settle(file, &mut concentrations[0..2208], &mut flows[0..2208])
+}
