@@ -1,4 +1,4 @@
--- Laws about fills and weights, each proved once; proofs of functions cite them, and so do the layers above.
+-- Laws about fills, each proved once; proofs of functions cite them, and so do the layers above.
 pub mod Largest
 pub mod Neighbours
 pub mod States

@@ -3,11 +3,6 @@ use mathlib.Core.Path.{_≡_}
 use mathlib.Core.List.{List}
 use Prim.Native.Nat.{ℕ}
 use Rattle.fills.specs.Gaps.{filledCells}
-use Rattle.fills.specs.Weights.{weightOf}
-use Rattle.fills.specs.declared.Weight.{Weight}
 
 pub fill-gaps : (states values left left' : List ℕ) → left ≡ filledCells states values → left' ≡ filledCells states values → left ≡ left'
 fill-gaps states values left left' p q = cc
-
-pub weigh : (concentrations flows : List ℕ) (r s : Weight) → r ≡ weightOf concentrations flows → s ≡ weightOf concentrations flows → r ≡ s
-weigh concentrations flows r s p q = cc
