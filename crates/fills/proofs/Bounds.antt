@@ -10,14 +10,15 @@ use lib.Dec.{eqb, leb}
 use Rattle.law.specs.Words.{largest, sumOf}
 use Rattle.law.proofs.Tests.{pick-case}
 use Rattle.law.proofs.Halves.{mean-is}
+use Rattle.law.proofs.Tables.{table-at}
 use Rattle.rules.specs.Slots.{Slot, valid, missing, stopped, valids, entry, entries}
 use Rattle.rules.specs.Fill.{Values, zeroes, cs, ls, window, short, long, fill, meanUp, same, filled}
 use Rattle.rules.specs.Grams.{amount}
-use Rattle.fills.specs.Gaps.{hoursIn, slotsIn, fillAt, cellAt, filledCells}
+use Rattle.fills.specs.Gaps.{slotAt, hoursIn, slotsIn, fillAt, cellAt, filledCells}
 use Rattle.fills.specs.Weights.{products}
 use Rattle.fills.proofs.Largest.{largest-append}
 use Rattle.fills.proofs.Entries.{entries-length, valids-map}
-use Rattle.fills.proofs.States.{slots-length, slot-holds, at-slot}
+use Rattle.fills.proofs.States.{slots-length, slot-holds}
 use Rattle.fills.proofs.Alone.{cs-alone, ls-alone}
 use Rattle.fills.proofs.Filled.{filled-at}
 use Rattle.fills.proofs.Products.{products-amounts}
@@ -125,7 +126,7 @@ module _ (M : ℕ) where
   unfolding cellAt slotsIn
   filled-most states values p k l =
       let valid-most : largest (valids (slotsIn states values)) ≤ M =
-      valids-each (slotsIn states values) (λ h v m e. let i : h < hoursIn states values = omega (arith, slots-length states values) in subst (λ (x : ℕ). x ≤ M) (sym (slot-holds states values h v (sym (at-slot states values (hoursIn states values) h i) ∙ e))) (p h i)) in
+      valids-each (slotsIn states values) (λ h v m e. let i : h < hoursIn states values = omega (arith, slots-length states values) in subst (λ (x : ℕ). x ≤ M) (sym (slot-holds states values h v (sym (table-at (slotAt states values) (hoursIn states values) h stopped i) ∙ e))) (p h i)) in
       subst (λ (x : ℕ). x ≤ M) (sym (filled-at states values k l))
       (pick-case (λ (v : ℕ). v ≤ M) (eqb (getD states k 0) 1) _ _ (λ t. fillAt-most (slotsIn states values) k valid-most) (λ t. p k l))
 

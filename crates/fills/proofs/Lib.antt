@@ -2,6 +2,7 @@
 pub mod Largest
 pub mod Neighbours
 pub mod States
+pub mod Gather
 pub mod Walk
 pub mod Products
 pub mod Entries

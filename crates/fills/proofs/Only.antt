@@ -2,7 +2,15 @@
 use mathlib.Core.Path.{_≡_}
 use mathlib.Core.List.{List}
 use Prim.Native.Nat.{ℕ}
-use Rattle.fills.specs.Gaps.{filledCells}
+use lib.ListN.{take}
+use Rattle.fills.specs.Gaps.{hoursInBoth, filledCells}
 
-pub fill-gaps : (states values left left' : List ℕ) → left ≡ filledCells states values → left' ≡ filledCells states values → left ≡ left'
-fill-gaps states values left left' p q = cc
+module _ (states concentrations flows : List ℕ) where
+  -- what the slices hold as the call returns
+  abbrev pub FillGaps : List ℕ → List ℕ → Type 0
+  FillGaps cs ls =
+      (cs ≡ filledCells (take (hoursInBoth states concentrations flows) states) concentrations)
+      × (ls ≡ filledCells (take (hoursInBoth states concentrations flows) states) flows)
+
+  pub fill-gaps : (cs cs' ls ls' : List ℕ) → FillGaps cs ls → FillGaps cs' ls' → (cs ≡ cs') × (ls ≡ ls')
+  fill-gaps cs cs' ls ls' p q = (cc, cc)

@@ -1,4 +1,4 @@
--- An hour by its state, 2 valid, 1 missing and any other stopped, and the first n hours in a row. Assumes nothing.
+-- An hour by its state, 2 valid, 1 missing and any other stopped, and the hours in a row. Assumes nothing.
 use mathlib.Core.Path.{_≡_, refl, _∙_, sym}
 use mathlib.Core.Bool.{Bool, true, false}
 use mathlib.Core.Logic.{inl, inr}
@@ -8,11 +8,12 @@ use native.Mathlib.Omega.{arith}
 use lib.ListN.{length, getD}
 use lib.Dec.{eqb}
 use borrow.Author.Tests.{eqb-true, eqb-false}
-use Rattle.law.specs.Words.{pick, table}
+use Rattle.law.specs.Words.{pick}
 use Rattle.law.proofs.Tests.{pick-eq, pick-not-eq}
 use Rattle.law.proofs.Tables.{table-length, table-at}
 use Rattle.rules.specs.Slots.{Slot, valid, missing, stopped, run, valids}
-use Rattle.fills.specs.Gaps.{slotAt, hoursIn, slotsIn}
+use Rattle.fills.specs.Gaps.{slotAt, hoursIn, hoursInBoth, slotsIn}
+use Rattle.fills.specs.Parts.{row}
 use Rattle.fills.proofs.Neighbours.{At, Empty, from, run-from, run-end, valids-from, valids-end, alike-step}
 
 -- all hours that have a state are looked at, where each has a cell and there are no more than a quarter has
@@ -20,9 +21,10 @@ pub hours-all : (states values : List ℕ) → length states ≤ length values �
 unfolding hoursIn
 hours-all states values l m = omega arith
 
--- the first n hours
-abbrev pub row : List ℕ → List ℕ → ℕ → List (Slot ℕ)
-row states values n = table (slotAt states values) n
+pub hours-all-both : (states concentrations flows : List ℕ) → length states ≤ length concentrations → length states ≤ length flows → length states ≤ 2_208
+    → hoursInBoth states concentrations flows ≡ length states
+unfolding hoursInBoth
+hours-all-both states concentrations flows c l m = omega arith
 
 module _ (states values : List ℕ) where
   pub slots-length : length (slotsIn states values) ≡ hoursIn states values
@@ -53,50 +55,50 @@ module _ (states values : List ℕ) where
     unfolding slotAt
     slot-holds v e = holds-by v (eqb (getD states k 0) 2) (eqb (getD states k 0) 1) e
 
-  module _ (n k : ℕ) where
+  module _ (k : ℕ) where
     -- the row's end
-    pub run-none : n ≤ k → run (from (row states values n) k) ≡ 0
-    run-none l = run-end (row states values n) k (omega (arith, table-length (slotAt states values) n))
+    pub run-none : length states ≤ k → run (from (row states values) k) ≡ 0
+    run-none l = run-end (row states values) k (omega (arith, table-length (slotAt states values) (length states)))
 
-    pub valids-none : n ≤ k → valids (from (row states values n) k) ≡ []
-    valids-none l = valids-end (row states values n) k (omega (arith, table-length (slotAt states values) n))
+    pub valids-none : length states ≤ k → valids (from (row states values) k) ≡ []
+    valids-none l = valids-end (row states values) k (omega (arith, table-length (slotAt states values) (length states)))
 
-    module _ (l : k < n) where
-      pub in-row : k < length (row states values n)
-      in-row = omega (arith, table-length (slotAt states values) n)
+    module _ (l : k < length states) where
+      pub in-row : k < length (row states values)
+      in-row = omega (arith, table-length (slotAt states values) (length states))
 
       -- hour k in the row
-      pub at-slot : At (row states values n) k (slotAt states values k)
-      at-slot = table-at (slotAt states values) n k stopped l
+      pub at-slot : At (row states values) k (slotAt states values k)
+      at-slot = table-at (slotAt states values) (length states) k stopped l
 
-      pub at-valid : getD states k 0 ≡ 2 → At (row states values n) k (valid (getD values k 0))
+      pub at-valid : getD states k 0 ≡ 2 → At (row states values) k (valid (getD values k 0))
       at-valid e = at-slot ∙ slot-valid k e
 
-      pub at-missing : getD states k 0 ≡ 1 → At (row states values n) k missing
+      pub at-missing : getD states k 0 ≡ 1 → At (row states values) k missing
       at-missing e = at-slot ∙ slot-missing k e
 
-      pub at-stopped : (getD states k 0 ≡ 2 → ⊥) → (getD states k 0 ≡ 1 → ⊥) → At (row states values n) k stopped
+      pub at-stopped : (getD states k 0 ≡ 2 → ⊥) → (getD states k 0 ≡ 1 → ⊥) → At (row states values) k stopped
       at-stopped p q = at-slot ∙ slot-stopped k p q
 
-      empty-by : (t : Bool) → eqb (getD states k 0) 1 ≡ t → (getD states k 0 ≡ 2 → ⊥) → Empty (row states values n) k
+      empty-by : (t : Bool) → eqb (getD states k 0) 1 ≡ t → (getD states k 0 ≡ 2 → ⊥) → Empty (row states values) k
       empty-by true e p = inl (at-missing (eqb-true (getD states k 0) 1 e))
       empty-by false e p = inr (at-stopped p (eqb-false (getD states k 0) 1 e))
 
-      pub at-empty : (getD states k 0 ≡ 2 → ⊥) → Empty (row states values n) k
+      pub at-empty : (getD states k 0 ≡ 2 → ⊥) → Empty (row states values) k
       at-empty p = empty-by (eqb (getD states k 0) 1) refl p
 
       -- what is left of a run and of the valid values, once hour k is passed
-      pub run-valid : getD states k 0 ≡ 2 → run (from (row states values n) k) ≡ 0
-      run-valid e = run-from (row states values n) k (valid (getD values k 0)) in-row (at-valid e)
+      pub run-valid : getD states k 0 ≡ 2 → run (from (row states values) k) ≡ 0
+      run-valid e = run-from (row states values) k (valid (getD values k 0)) in-row (at-valid e)
 
-      pub run-missing : getD states k 0 ≡ 1 → run (from (row states values n) k) ≡ suc (run (from (row states values n) (k + 1)))
-      run-missing e = run-from (row states values n) k missing in-row (at-missing e)
+      pub run-missing : getD states k 0 ≡ 1 → run (from (row states values) k) ≡ suc (run (from (row states values) (k + 1)))
+      run-missing e = run-from (row states values) k missing in-row (at-missing e)
 
-      pub run-stopped : (getD states k 0 ≡ 2 → ⊥) → (getD states k 0 ≡ 1 → ⊥) → run (from (row states values n) k) ≡ run (from (row states values n) (k + 1))
-      run-stopped p q = run-from (row states values n) k stopped in-row (at-stopped p q)
+      pub run-stopped : (getD states k 0 ≡ 2 → ⊥) → (getD states k 0 ≡ 1 → ⊥) → run (from (row states values) k) ≡ run (from (row states values) (k + 1))
+      run-stopped p q = run-from (row states values) k stopped in-row (at-stopped p q)
 
-      pub valids-valid : getD states k 0 ≡ 2 → valids (from (row states values n) k) ≡ getD values k 0 ∷ valids (from (row states values n) (k + 1))
-      valids-valid e = valids-from (row states values n) k (valid (getD values k 0)) in-row (at-valid e)
+      pub valids-valid : getD states k 0 ≡ 2 → valids (from (row states values) k) ≡ getD values k 0 ∷ valids (from (row states values) (k + 1))
+      valids-valid e = valids-from (row states values) k (valid (getD values k 0)) in-row (at-valid e)
 
-      pub valids-empty : (getD states k 0 ≡ 2 → ⊥) → valids (from (row states values n) (k + 1)) ≡ valids (from (row states values n) k)
-      valids-empty p = alike-step (row states values n) k in-row (at-empty p) .2
+      pub valids-empty : (getD states k 0 ≡ 2 → ⊥) → valids (from (row states values) (k + 1)) ≡ valids (from (row states values) k)
+      valids-empty p = alike-step (row states values) k in-row (at-empty p) .2

@@ -11,9 +11,13 @@ use Rattle.rules.specs.Fill.{fill, meanUp, same}
 unfoldable pub slotAt : List ℕ → List ℕ → ℕ → Slot ℕ
 slotAt states values h = pick (eqb (getD states h 0) 2) (valid (getD values h 0)) (pick (eqb (getD states h 0) 1) missing stopped)
 
--- the hours that have a state and a cell, and no more than a quarter has
+-- the hours that have a state and a cell of one quantity, and no more than a quarter has
 unfoldable pub hoursIn : List ℕ → List ℕ → ℕ
 hoursIn states values = min (min (length states) (length values)) 2_208
+
+-- the hours that have a state and both cells, and no more than a quarter has
+unfoldable pub hoursInBoth : List ℕ → List ℕ → List ℕ → ℕ
+hoursInBoth states concentrations flows = min (min (min (length states) (length concentrations)) (length flows)) 2_208
 
 -- those hours in a row
 unfoldable pub slotsIn : List ℕ → List ℕ → List (Slot ℕ)

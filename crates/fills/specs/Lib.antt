@@ -1,3 +1,4 @@
 -- Document 01, "Fills" and formula 2, over the work slices.
 pub mod Gaps
+pub mod Parts
 pub mod Weights

@@ -1,25 +1,39 @@
-// The gaps of one quantity of a line. A state is 2 for a measured hour and 1 for a missing one; with any other the hour is stopped.
+// The gaps of a line's two quantities. A state is 2 for a measured hour and 1 for a missing one; with any other the hour is stopped.
 ghost use mathlib.Core.Path.{_≡_};
-ghost use mathlib.Core.List.{List};
-ghost use Prim.Native.Nat.{ℕ, _<_, _≤_};
-ghost use lib.ListN.{length, getD, take, drop};
-ghost use lib.Dec.{eqb};
-ghost use Rattle.law.specs.Words.{pick, table, over};
-ghost use Rattle.rules.specs.Slots.{run, valids};
-ghost use Rattle.fills.specs.Gaps.{slotAt, hoursIn, filledCells};
+ghost use mathlib.Core.List.{reverse};
+ghost use Prim.Native.Nat.{_≤_};
+ghost use lib.ListN.{length, take, drop};
+ghost use Rattle.law.specs.Words.{over};
+ghost use Rattle.rules.specs.Slots.{valids};
+ghost use Rattle.rules.specs.Fill.{fill, meanUp, same};
+ghost use Rattle.fills.specs.Gaps.{hoursInBoth, filledCells};
+ghost use Rattle.fills.specs.Parts.{row, Scanned, spot, patched};
 use crate::rule::fill_of;
 use crate::smaller;
 
-// The valid values of the first `hours` hours, in their order, into the first cells of `out`; how many there are.
-fn gather(states: &[u8], values: &[u32], hours: usize, out: &mut [u32]) -> usize
-    requires { ⌜ (hours ≤ length (now states)) × (hours ≤ length (now values)) × (hours ≤ length (now out)) ⌝ }
-    ensures { λ r. ⌜ (r ≤ hours) × (take r (now (out .exit)) ≡ valids (table (slotAt (now (states .entry)) (now (values .entry))) hours)) ⌝ }
+// What a scan from an hour on finds: the missing hours up to the next valid one, and that hour, or the number of hours.
+struct Gap {
+    missing: usize,
+    next: usize,
+}
+
+// The valid values of both quantities, in their order, into the first cells of `cs` and `ls`; how many there are.
+fn gather(
+    states: &[u8],
+    concentrations: &[u32],
+    flows: &[u32],
+    cs: &mut [u32],
+    ls: &mut [u32],
+) -> usize
+    requires { ⌜ (length (now states) ≤ length (now concentrations)) × (length (now states) ≤ length (now flows)) × (length (now states) ≤ length (now cs)) × (length (now states) ≤ length (now ls)) ⌝ }
+    ensures { λ r. ⌜ (r ≤ length (now (states .entry))) × (take r (now (cs .exit)) ≡ valids (row (now (states .entry)) (now (concentrations .entry)))) × (take r (now (ls .exit)) ≡ valids (row (now (states .entry)) (now (flows .entry)))) ⌝ }
 {
     let mut b: usize = 0;
     let mut i: usize = 0;
-    while i < hours {
+    while i < states.len() {
         if states[i] == 2 {
-            out[b] = values[i];
+            cs[b] = concentrations[i];
+            ls[b] = flows[i];
             b += 1;
         }
         i += 1;
@@ -27,45 +41,29 @@ fn gather(states: &[u8], values: &[u32], hours: usize, out: &mut [u32]) -> usize
     b
 }
 
-// The missing hours from `first` on, up to the next valid one.
-fn gap_length(states: &[u8], first: usize, hours: usize) -> usize
-    requires { ⌜ (first ≤ hours) × (hours ≤ length (now states)) ⌝ }
-    ensures { λ r. ⌜ ((values : List ℕ) → r ≡ run (drop first (table (slotAt (now (states .entry)) values) hours))) ⌝ }
+fn scan(states: &[u8], first: usize) -> Gap
+    requires { ⌜ first ≤ length (now states) ⌝ }
+    ensures { λ r. ⌜ Scanned (now (states .entry)) first (r .missing) (r .next) ⌝ }
 {
-    let mut m: usize = 0;
-    let mut k = first;
-    while k < hours {
-        let state = states[k];
+    let mut missing: usize = 0;
+    let mut next = first;
+    while next < states.len() {
+        let state = states[next];
         if state == 2 {
-            return m;
+            return Gap { missing, next };
         }
         if state == 1 {
-            m += 1;
+            missing += 1;
         }
-        k += 1;
+        next += 1;
     }
-    m
-}
-
-// The next valid hour from `first` on, or the number of hours.
-fn next_valid(states: &[u8], first: usize, hours: usize) -> usize
-    requires { ⌜ (first ≤ hours) × (hours ≤ length (now states)) ⌝ }
-    ensures { λ r. ⌜ (first ≤ r) × (r ≤ hours) × ((k : ℕ) → k < r → first ≤ k → getD (now (states .entry)) k 0 ≡ 2 → ⊥) × (r < hours → getD (now (states .entry)) r 0 ≡ 2) ⌝ }
-{
-    let mut k = first;
-    while k < hours {
-        if states[k] == 2 {
-            return k;
-        }
-        k += 1;
-    }
-    k
+    Gap { missing, next }
 }
 
 // `v` into the missing hours among the first `count`.
 fn filler(part: &mut [u32], states: &[u8], count: usize, v: u32)
     requires { ⌜ (count ≤ length (now part)) × (count ≤ length (now states)) ⌝ }
-    ensures { λ _. ⌜ now (part .exit) ≡ over (λ k. pick (eqb (getD (now (states .entry)) k 0) 1) v (getD (now (part .entry)) k 0)) count (now (part .entry)) ⌝ }
+    ensures { λ _. ⌜ now (part .exit) ≡ over (spot (now (states .entry)) v (now (part .entry))) count (now (part .entry)) ⌝ }
 {
     let mut k: usize = 0;
     while k < count {
@@ -76,37 +74,61 @@ fn filler(part: &mut [u32], states: &[u8], count: usize, v: u32)
     }
 }
 
-// Every gap, from the first hour on: `kept` has all valid values, of which `b` stand before hour `i`.
-fn walk(states: &[u8], values: &mut [u32], hours: usize, kept: &[u32])
-    requires { ⌜ (hours ≡ hoursIn (now states) (now values)) × (now kept ≡ valids (table (slotAt (now states) (now values)) hours)) ⌝ }
-    ensures { λ _. ⌜ now (values .exit) ≡ filledCells (now (states .entry)) (now (values .entry)) ⌝ }
+// One quantity of the gap at hour `first`: `kept` has its valid values, of which `b` stand before the gap.
+fn fill_one(states: &[u8], values: &mut [u32], kept: &[u32], first: usize, b: usize, gap: Gap)
+    requires { ⌜ (first ≤ gap .next) × (gap .next ≤ length (now states)) × (gap .next ≤ length (now values)) × (b ≤ length (now kept)) ⌝ }
+    ensures { λ _. ⌜ now (values .exit) ≡ patched (now (states .entry)) (fill meanUp same (gap .missing) (reverse (take b (now (kept .entry)))) (drop b (now (kept .entry)))) first (gap .next) (now (values .entry)) ⌝ }
 {
-    let mut b: usize = 0;
+    let v = fill_of(gap.missing, &kept[0..b], &kept[b..]);
+    filler(&mut values[first..], &states[first..], gap.next - first, v);
+}
+
+// Every gap, from the first hour on: of the hours before `i`, `empty` are not measured.
+fn walk(states: &[u8], concentrations: &mut [u32], flows: &mut [u32], cs: &[u32], ls: &[u32])
+    requires { ⌜ (length (now states) ≤ 2208) × (length (now states) ≤ length (now concentrations)) × (length (now states) ≤ length (now flows)) × (now cs ≡ valids (row (now states) (now concentrations))) × (now ls ≡ valids (row (now states) (now flows))) ⌝ }
+    ensures { λ _. ⌜ (now (concentrations .exit) ≡ filledCells (now (states .entry)) (now (concentrations .entry))) × (now (flows .exit) ≡ filledCells (now (states .entry)) (now (flows .entry))) ⌝ }
+{
+    let mut empty: usize = 0;
     let mut i: usize = 0;
-    while i < hours {
+    while i < states.len() {
         let s = states[i];
-        if s == 1 {
-            let gap = gap_length(states, i, hours);
-            let next = next_valid(states, i, hours);
-            let v = fill_of(gap, &kept[0..b], &kept[b..]);
-            filler(&mut values[i..], &states[i..], next - i, v);
-            i = next;
-        } else {
-            if s == 2 {
-                b += 1;
-            }
+        if s == 2 {
             i += 1;
+        } else {
+            if s == 1 {
+                let gap = scan(states, i);
+                let b = i - empty;
+                fill_one(states, concentrations, cs, i, b, gap);
+                fill_one(states, flows, ls, i, b, gap);
+                i = gap.next;
+                empty = i - b;
+            } else {
+                empty += 1;
+                i += 1;
+            }
         }
     }
 }
 
-// Fills the missing hours of any two slices: of the hours that have a state and a cell, the first 2,208.
-pub fn fill_gaps(states: &[u8], values: &mut [u32])
-    ensures { λ _. ⌜ now (values .exit) ≡ filledCells (now (states .entry)) (now (values .entry)) ⌝ }
+// Of states each of which has both cells.
+fn fill_both(states: &[u8], concentrations: &mut [u32], flows: &mut [u32])
+    requires { ⌜ (length (now states) ≤ 2208) × (length (now states) ≤ length (now concentrations)) × (length (now states) ≤ length (now flows)) ⌝ }
+    ensures { λ _. ⌜ (now (concentrations .exit) ≡ filledCells (now (states .entry)) (now (concentrations .entry))) × (now (flows .exit) ≡ filledCells (now (states .entry)) (now (flows .entry))) ⌝ }
 {
-    let hours = smaller(smaller(states.len(), values.len()), 2208);
     // The valid values are kept aside before a cell is written, so that no fill feeds another.
-    let mut kept = [0u32; 2208];
-    let count = gather(states, values, hours, &mut kept);
-    walk(states, values, hours, &kept[0..count]);
+    let mut cs = [0u32; 2208];
+    let mut ls = [0u32; 2208];
+    let count = gather(states, concentrations, flows, &mut cs, &mut ls);
+    walk(states, concentrations, flows, &cs[0..count], &ls[0..count]);
+}
+
+// Fills the missing hours of both quantities: of the hours that have a state and both cells, the first 2,208.
+pub fn fill_gaps(states: &[u8], concentrations: &mut [u32], flows: &mut [u32])
+    ensures { λ _. ⌜ (now (concentrations .exit) ≡ filledCells (take (hoursInBoth (now (states .entry)) (now (concentrations .entry)) (now (flows .entry))) (now (states .entry))) (now (concentrations .entry))) × (now (flows .exit) ≡ filledCells (take (hoursInBoth (now (states .entry)) (now (concentrations .entry)) (now (flows .entry))) (now (states .entry))) (now (flows .entry))) ⌝ }
+{
+    let hours = smaller(
+        smaller(smaller(states.len(), concentrations.len()), flows.len()),
+        2208,
+    );
+    fill_both(&states[0..hours], concentrations, flows);
 }

@@ -1,10 +1,11 @@
 -- `gaps::fill_gaps` meets its contract. Assumes nothing.
-use mathlib.Core.Path.{_∙_, ap}
-use Prim.Native.Nat.{ℕ}
-use native.Mathlib.Nat.{sub-zero}
+use mathlib.Core.Path.{_≡_, _∙_, ap}
+use mathlib.Core.List.{List}
+use Prim.Native.Nat.{ℕ, _-_}
 use native.Mathlib.Omega.{arith}
 use lib.ListN.{take}
-use Rattle.fills.specs.Gaps.{hoursIn}
+use denote.Ref.{now}
+use Rattle.fills.specs.Gaps.{hoursInBoth, filledCells}
 use borrow.Author.Needs.{needs}
 use Rattle.fills.proofs.gaps.fill_gaps.Statement.{statement}
 use Rattle.fills.proofs.gaps.fill_gaps.Tie as tie
@@ -15,33 +16,35 @@ smaller-requires c κs = search needs
 smaller-requires-2 : tie.Need-smaller-requires-2
 smaller-requires-2 c κs = search needs
 
-slice-aggregate-gather : tie.Need-slice-aggregate-gather
-slice-aggregate-gather c = search needs
+smaller-requires-3 : tie.Need-smaller-requires-3
+smaller-requires-3 c κs = search needs
 
-gather-requires : tie.Need-gather-requires
-gather-requires c κs = search needs
+sub-fill-both : tie.Need-sub-fill-both
+sub-fill-both c = search needs
 
-sub-walk : tie.Need-sub-walk
-sub-walk c = search needs
+part-fill-both-start : tie.Need-part-fill-both-start
+part-fill-both-start c = search needs
 
-part-walk-start : tie.Need-part-walk-start
-part-walk-start c = search needs
+part-fill-both-end : tie.Need-part-fill-both-end
+part-fill-both-end c = search needs
 
-part-walk-end : tie.Need-part-walk-end
-part-walk-end c = search needs
-
-walk-requires : tie.Need-walk-requires
-unfolding hoursIn
-walk-requires c κs =
-    let g = c .before .before .before .before in
-    let n = g .before .before .before in
-    (omega (arith, n .smaller2 .ensures, n .before .smaller .ensures), ap (λ (k : ℕ). take k (g .gather .last .1 .1 .1 .0)) (sub-zero (g .gather .result)) ∙ g .gather .ensures .1)
+fill-both-requires : tie.Need-fill-both-requires
+fill-both-requires c κs = search needs
 
 same-length : tie.Need-same-length
 same-length c = search needs
 
+same-length-2 : tie.Need-same-length-2
+same-length-2 c = search needs
+
 returns : tie.Need-returns
-returns c = search needs
+unfolding hoursInBoth
+returns c = let f = c .before .before .before .before in
+    let n = f .before .before .before .before in
+    let a = n .before .before .before .before .before .before .args in
+    let s = now (a .states) in
+    let e : n .smaller3 .result - 0 ≡ hoursInBoth s (now (a .concentrations)) (now (a .flows)) = omega (arith, n .smaller3 .ensures, n .before .smaller2 .ensures, n .before .before .smaller .ensures) in
+    (f .fill-both .ensures .0 ∙ ap (λ (k : ℕ). filledCells (take k s) (now (a .concentrations))) e, f .fill-both .ensures .1 ∙ ap (λ (k : ℕ). filledCells (take k s) (now (a .flows))) e)
 
 pub fill-gaps-spec : {M : Type 1} → statement M
 fill-gaps-spec =
@@ -49,11 +52,11 @@ fill-gaps-spec =
     (tie.spec
     smaller-requires
     smaller-requires-2
-    slice-aggregate-gather
-    gather-requires
-    sub-walk
-    part-walk-start
-    part-walk-end
-    walk-requires
+    smaller-requires-3
+    sub-fill-both
+    part-fill-both-start
+    part-fill-both-end
+    fill-both-requires
     same-length
+    same-length-2
     returns)

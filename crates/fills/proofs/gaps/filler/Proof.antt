@@ -9,7 +9,7 @@ use denote.Ref.{now}
 use Rattle.law.specs.Words.{over}
 use Rattle.law.proofs.Tests.{pick-eq, pick-not-eq}
 use Rattle.law.proofs.Over.{over-none, over-more, over-skip}
-use Rattle.fills.proofs.Walk.{spot}
+use Rattle.fills.specs.Parts.{spot}
 use borrow.Author.Needs.{needs}
 use Rattle.fills.proofs.gaps.filler.Statement.{statement}
 use Rattle.fills.proofs.gaps.filler.Tie as tie

@@ -1,146 +1,92 @@
--- `gaps::walk` meets its contract. Assumes nothing.
-use mathlib.Core.Path.{_≡_, _∙_, sym, ap, ap₂, subst}
-use mathlib.Core.Logic.{⊎-elim}
-use mathlib.Core.List.{reverse}
-use Prim.Native.Nat.{ℕ, _+_, _-_, _<_}
-use native.Mathlib.Nat.{sub-zero}
+-- `gaps::walk` meets its contract: what it holds is held in each quantity. Assumes nothing.
+use mathlib.Core.Path.{_≡_}
+use Prim.Native.Nat.{_-_, _<_, _≤_}
 use native.Mathlib.Omega.{arith}
-use lib.ListN.{length, take, drop}
+use lib.ListN.{length}
 use denote.Ref.{now}
-use Rattle.law.specs.Words.{over}
-use Rattle.rules.specs.Fill.{fill, meanUp, same}
-use Rattle.fills.proofs.Walk.{cell, cells-filled, Stand, stand-start, stand-valid, stand-stopped, stand-gap, gap-moves}
+use Rattle.fills.proofs.Walk.{Stand, stand-start, stand-valid, stand-stopped, stand-gap, stand-end, gap-moves}
 use borrow.Author.Needs.{needs}
 use Rattle.fills.proofs.gaps.walk.Statement.{statement}
 use Rattle.fills.proofs.gaps.walk.Tie as tie
 
 abbrev Inv-loop : tie.InvT-loop
-Inv-loop states values₀ hours kept b₀ i₀ values b i = Stand states values₀ kept hours values b i
+Inv-loop states concentrations₀ flows₀ cs ls empty₀ i₀ concentrations flows empty i =
+    (empty ≤ i) × Stand states concentrations₀ cs concentrations (i - empty) i × Stand states flows₀ ls flows (i - empty) i
 
 abbrev μ-loop : tie.MeasureT-loop
-μ-loop states values₀ hours kept b₀ i₀ values b i = hours - i
+μ-loop states concentrations₀ flows₀ cs ls empty₀ i₀ concentrations flows empty i = length states - i
 
 loop-holds : tie.Need-loop-holds Inv-loop μ-loop
-loop-holds c =
-    let t = c .before .before .before in
-    stand-start (now (t .args .states)) (now (t .args .values)) (now (t .args .kept)) (t .args .hours) (t .pre .0) (t .pre .1)
+loop-holds c = let p = c .before .before .before .before .before .pre in
+    (search needs, stand-start _ _ _ (p .1) (p .3), stand-start _ _ _ (p .2) (p .4))
 
 shared-slice-read-s : tie.Need-shared-slice-read-s Inv-loop μ-loop
 shared-slice-read-s c = search needs
 
-gap-length-requires : tie.Need-gap-length-requires Inv-loop μ-loop
-gap-length-requires c κs = search needs
-
-next-valid-requires : tie.Need-next-valid-requires Inv-loop μ-loop
-next-valid-requires c κs = search needs
-
-sub-fill-of : tie.Need-sub-fill-of Inv-loop μ-loop
-sub-fill-of c = search needs
-
-part-fill-of-start : tie.Need-part-fill-of-start Inv-loop μ-loop
-part-fill-of-start c = search needs
-
-part-fill-of-end : tie.Need-part-fill-of-end Inv-loop μ-loop
-part-fill-of-end c = search needs
-
-mul-fill-of : tie.Need-mul-fill-of Inv-loop μ-loop
-mul-fill-of c = search needs
-
-sub-fill-of-2 : tie.Need-sub-fill-of-2 Inv-loop μ-loop
-sub-fill-of-2 c = search needs
-
-part-fill-of-start-2 : tie.Need-part-fill-of-start-2 Inv-loop μ-loop
-part-fill-of-start-2 c = search needs
-
-part-fill-of-end-2 : tie.Need-part-fill-of-end-2 Inv-loop μ-loop
-part-fill-of-end-2 c = search needs
-
-fill-of-requires : tie.Need-fill-of-requires Inv-loop μ-loop
-fill-of-requires c κs = search needs
-
-mul-filler : tie.Need-mul-filler Inv-loop μ-loop
-mul-filler c = search needs
-
-sub-filler : tie.Need-sub-filler Inv-loop μ-loop
-sub-filler c = search needs
-
-part-filler-start : tie.Need-part-filler-start Inv-loop μ-loop
-part-filler-start c = search needs
-
-part-filler-end : tie.Need-part-filler-end Inv-loop μ-loop
-part-filler-end c = search needs
-
-sub-filler-2 : tie.Need-sub-filler-2 Inv-loop μ-loop
-sub-filler-2 c = search needs
-
-part-filler-start-2 : tie.Need-part-filler-start-2 Inv-loop μ-loop
-part-filler-start-2 c = search needs
-
-part-filler-end-2 : tie.Need-part-filler-end-2 Inv-loop μ-loop
-part-filler-end-2 c = search needs
-
-sub-filler-3 : tie.Need-sub-filler-3 Inv-loop μ-loop
-sub-filler-3 c = search needs
-
-filler-requires : tie.Need-filler-requires Inv-loop μ-loop
-filler-requires c κs = search needs
-
-loop-less : tie.Need-loop-less Inv-loop μ-loop
-loop-less c =
-    let n = c .before .before .before .before .before .before .before .before in
-    let i = n .before .before in
-    let l = i .before .before .before .loop in
-    let t = i .before .before .before .before .before .before .before in
-    let m : l .i < n .next-valid .result = gap-moves (now (t .args .states)) (t .args .hours) (l .i) (n .next-valid .result) (i .before .before .loop-test .taken) (i .if1 .taken) (n .next-valid .ensures) in
-    omega (arith, n .next-valid .ensures .1)
-
-loop-again : tie.Need-loop-again Inv-loop μ-loop
-loop-again c =
-    let f = c .before .before in
-    let v = f .before .before .before in
-    let n = v .before .before .before in
-    let i = n .before .before in
-    let l = i .before .before .before .loop in
-    let t = i .before .before .before .before .before .before .before in
-    let s = now (t .args .states) in
-    let x = now (t .args .values) in
-    let k = now (t .args .kept) in
-    stand-gap s x k (t .args .hours) (l .values) (l .b) (l .i) (n .next-valid .result) (v .fill-of .result) (i .before .before .loop-test .taken) (i .if1 .taken) (l .inv) (n .next-valid .ensures)
-    (v .fill-of .ensures ∙ ap₂ (λ (g b : ℕ). fill meanUp same g (reverse (take b k)) (take (length k - l .b) (drop (l .b) k))) (n .before .gap-length .ensures x) (sub-zero (l .b)))
-    (f .filler .last .0) (f .filler .ensures)
-
-add-b : tie.Need-add-b Inv-loop μ-loop
-add-b c = search needs
-
 add-i : tie.Need-add-i Inv-loop μ-loop
 add-i c = search needs
 
+loop-less : tie.Need-loop-less Inv-loop μ-loop
+loop-less c = search needs
+
+loop-again : tie.Need-loop-again Inv-loop μ-loop
+loop-again c = let l = c .before .before .before .loop in
+    let t = c .before .before .before .before in
+    (omega arith, stand-valid _ _ _ _ _ (l .i) (omega arith) (l .inv .1) (c .if1 .taken) _ (omega arith), stand-valid _ _ _ _ _ (l .i) (omega arith) (l .inv .2) (c .if1 .taken) _ (omega arith))
+
+scan-requires : tie.Need-scan-requires Inv-loop μ-loop
+scan-requires c κs = search needs
+
+sub-b : tie.Need-sub-b Inv-loop μ-loop
+sub-b c = search needs
+
+fill-one-requires : tie.Need-fill-one-requires Inv-loop μ-loop
+fill-one-requires c κs = search needs
+
+fill-one-requires-2 : tie.Need-fill-one-requires-2 Inv-loop μ-loop
+fill-one-requires-2 c κs = search needs
+
+sub-empty : tie.Need-sub-empty Inv-loop μ-loop
+sub-empty c = search needs
+
 loop-less-2 : tie.Need-loop-less-2 Inv-loop μ-loop
-loop-less-2 c = search needs
+loop-less-2 c = let g = c .before .before .before .before .before .before .before .before in
+    let l = g .before .before .before .before .before .loop in
+    let m : l .i < g .scan .result .next = gap-moves _ (l .i) _ (g .scan .result .next) (omega arith) (g .before .if2 .taken) (g .scan .ensures) in
+    omega (arith, g .scan .ensures .ends)
 
 loop-again-2 : tie.Need-loop-again-2 Inv-loop μ-loop
-loop-again-2 c =
-    let i = c .before .before .before .before .loop in
-    let t = c .before .before .before .before .before .before .before .before in
-    let s = now (t .args .states) in
-    let x = now (t .args .values) in
-    let k = now (t .args .kept) in
-    let n = t .args .hours in
-    ⊎-elim
-    (λ w. subst (λ (b : ℕ). Stand s x k n (i .values) b (i .i + 1)) (sym (w .1)) (stand-valid s x k n (i .values) (i .b) (i .i) (omega arith) (w .0 .taken) (i .inv)))
-    (λ w. subst (λ (b : ℕ). Stand s x k n (i .values) b (i .i + 1)) (sym (w .1)) (stand-stopped s x k n (i .values) (i .b) (i .i) (omega arith) (c .before .if1 .left) (w .0 .left) (i .inv)))
-    (c .if2 .came)
+loop-again-2 c = let f = c .before .before in
+    let h = f .before .before .before .before in
+    let g = h .before .before in
+    let l = g .before .before .before .before .before .loop in
+    let n = g .scan .result .next in
+    let m : l .i < n = gap-moves _ (l .i) _ n (omega arith) (g .before .if2 .taken) (g .scan .ensures) in
+    let b : n - (n - (l .i - l .empty)) ≡ l .i - l .empty = omega arith in
+    (omega arith, stand-gap _ _ _ _ _ (l .i) (omega arith) (l .inv .1) (g .before .if2 .taken) _ n (g .scan .ensures) _ (h .fill-one .ensures) _ b, stand-gap _ _ _ _ _ (l .i) (omega arith) (l .inv .2) (g .before .if2 .taken) _ n (g .scan .ensures) _ (f .fill-one2 .ensures) _ b)
+
+add-empty : tie.Need-add-empty Inv-loop μ-loop
+add-empty c = search needs
+
+add-i-2 : tie.Need-add-i-2 Inv-loop μ-loop
+add-i-2 c = search needs
+
+loop-less-3 : tie.Need-loop-less-3 Inv-loop μ-loop
+loop-less-3 c = search needs
+
+loop-again-3 : tie.Need-loop-again-3 Inv-loop μ-loop
+loop-again-3 c = let l = c .before .before .before .before .loop in
+    (omega arith, stand-stopped _ _ _ _ _ (l .i) (omega arith) (l .inv .1) (c .before .if1 .left) (c .if2 .left) _ (omega arith), stand-stopped _ _ _ _ _ (l .i) (omega arith) (l .inv .2) (c .before .if1 .left) (c .if2 .left) _ (omega arith))
 
 same-length : tie.Need-same-length Inv-loop μ-loop
 same-length c = search needs
 
+same-length-2 : tie.Need-same-length-2 Inv-loop μ-loop
+same-length-2 c = search needs
+
 returns : tie.Need-returns Inv-loop μ-loop
-returns c =
-    let l = c .before .loop in
-    let t = c .before .before .before .before .before in
-    let a = t .args in
-    let e : l .i ≡ a .hours = omega arith in
-    l .inv .done ∙ ap (λ (k : ℕ). over (cell (now (a .states)) (now (a .values)) (a .hours)) k (now (a .values))) e ∙ cells-filled (now (a .states)) (now (a .values)) (a .hours) (t .pre .0)
+returns c = let l = c .before .loop in
+    (stand-end _ _ _ _ _ (l .i) (omega arith) (omega arith) (l .inv .1), stand-end _ _ _ _ _ (l .i) (omega arith) (omega arith) (l .inv .2))
 
 pub walk-spec : {M : Type 1} → statement M
 walk-spec =
@@ -150,30 +96,20 @@ walk-spec =
     μ-loop
     loop-holds
     shared-slice-read-s
-    gap-length-requires
-    next-valid-requires
-    sub-fill-of
-    part-fill-of-start
-    part-fill-of-end
-    mul-fill-of
-    sub-fill-of-2
-    part-fill-of-start-2
-    part-fill-of-end-2
-    fill-of-requires
-    mul-filler
-    sub-filler
-    part-filler-start
-    part-filler-end
-    sub-filler-2
-    part-filler-start-2
-    part-filler-end-2
-    sub-filler-3
-    filler-requires
+    add-i
     loop-less
     loop-again
-    add-b
-    add-i
+    scan-requires
+    sub-b
+    fill-one-requires
+    fill-one-requires-2
+    sub-empty
     loop-less-2
     loop-again-2
+    add-empty
+    add-i-2
+    loop-less-3
+    loop-again-3
     same-length
+    same-length-2
     returns)
