@@ -1,5 +1,5 @@
 -- What is put aside of one quantity before hour i: its valid values so far, b of them, and those left are all. Assumes nothing.
-use mathlib.Core.Path.{_≡_, refl, _∙_, sym, ap, ap₂}
+use mathlib.Core.Path.{_≡_, refl, _∙_, sym, ap}
 use mathlib.Core.List.{List, _++_, append-nil}
 use Prim.Native.Nat.{ℕ, _+_, _<_, _≤_}
 use lib.ListN.{length, getD, take, set, length-set}
@@ -18,30 +18,20 @@ module _ (states values out₀ : List ℕ) where
   pub gathered-start : Gathered states values out₀ out₀ 0 0
   gathered-start = record { size = refl; so-far = refl }
 
-  module _ (out : List ℕ) (b i : ℕ) (l : i < length states) (g : Gathered states values out₀ out b i) (out' : List ℕ) (b' : ℕ) where
-    left-over : List ℕ → ℕ → List ℕ
-    left-over t k = take k t ++ valids (from (row states values) (i + 1))
-
-    pub gathered-valid : getD states i 0 ≡ 2 → b < length out → out' ≡ set out b (getD values i 0) → b' ≡ b + 1 → Gathered states values out₀ out' b' (i + 1)
-    unfolding left-over
-    gathered-valid e m o k =
+  module _ (out : List ℕ) (b i : ℕ) (l : i < length states) (g : Gathered states values out₀ out b i) where
+    pub gathered-valid : getD states i 0 ≡ 2 → b < length out → Gathered states values out₀ (set out b (getD values i 0)) (b + 1) (i + 1)
+    gathered-valid e m =
         record {
-          size = ap length o ∙ length-set out b (getD values i 0) ∙ g .size;
+          size = length-set out b (getD values i 0) ∙ g .size;
           so-far =
-              ap₂ left-over o k
-              ∙ gather-more out (valids (from (row states values) i)) (valids (from (row states values) (i + 1))) b (getD values i 0) m (valids-valid states values i l e)
-              ∙ g .so-far;
+              gather-more out (valids (from (row states values) i)) (valids (from (row states values) (i + 1))) b (getD values i 0) m (valids-valid states values i l e) ∙ g .so-far;
         }
 
-    pub gathered-empty : (getD states i 0 ≡ 2 → ⊥) → out' ≡ out → b' ≡ b → Gathered states values out₀ out' b' (i + 1)
-    unfolding left-over
-    gathered-empty n o k =
+    pub gathered-empty : (getD states i 0 ≡ 2 → ⊥) → Gathered states values out₀ out b (i + 1)
+    gathered-empty n =
         record {
-          size = ap length o ∙ g .size;
-          so-far =
-              ap₂ left-over o k
-              ∙ ap (λ (t : List ℕ). take b out ++ t) (valids-empty states values i l n)
-              ∙ g .so-far;
+          size = g .size;
+          so-far = ap (λ (t : List ℕ). take b out ++ t) (valids-empty states values i l n) ∙ g .so-far;
         }
 
   pub gathered-done : (out : List ℕ) (b i : ℕ) → length states ≤ i → Gathered states values out₀ out b i → take b out ≡ valids (row states values)

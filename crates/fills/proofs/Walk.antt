@@ -3,7 +3,7 @@ use mathlib.Core.Path.{_≡_, refl, _∙_, sym, ap, ap₂, subst}
 use mathlib.Core.Bool.{Bool, true, false}
 use mathlib.Core.Logic.{⊎-elim}
 use mathlib.Core.List.{List, [], _∷_, _++_, reverse, reverse-append}
-use Prim.Native.Nat.{ℕ, suc, _+_, _-_, _<_, _≤_}
+use Prim.Native.Nat.{ℕ, zero, suc, _+_, _-_, _<_, _≤_}
 use native.Mathlib.Nat.{eq-or-lt-of-le}
 use native.Mathlib.Numerals.{add-one}
 use native.Mathlib.Omega.{arith}
@@ -18,7 +18,7 @@ use Rattle.law.proofs.Tables.{table-length}
 use Rattle.rules.specs.Slots.{Slot, valid, missing, stopped, run, valids}
 use Rattle.rules.specs.Fill.{fill, meanUp, same}
 use Rattle.fills.specs.Gaps.{slotAt, hoursIn, slotsIn, fillAt, cellAt, filledCells}
-use Rattle.fills.specs.Parts.{row, Scanned, spot, patched}
+use Rattle.fills.specs.Parts.{row, Measured, Scanned, spot, patched}
 use Rattle.fills.proofs.Neighbours.{before, from, Empty, run-before, valids-before, valids-from, none-before, alike, fill-alike}
 use Rattle.fills.proofs.States.{hours-all, in-row, at-valid, at-missing, at-stopped, at-empty}
 
@@ -167,6 +167,24 @@ module _ (states values₀ kept : List ℕ) where
             later = ap (λ (k : ℕ). drop k kept) same-b ∙ s .later ∙ sym (a .2) ∙ ap (λ (k : ℕ). valids (from slots k)) to;
             fresh = λ m q. absurd (q (g .stops m));
           }
+
+-- d hours more, all of them valid
+pub stand-run : (states values₀ kept values : List ℕ) (b i d : ℕ) → i + d ≤ length states → ((k : ℕ) → k < i + d → i ≤ k → getD states k 0 ≡ 2) → Stand states values₀ kept values b i → Stand states values₀ kept values (b + d) (i + d)
+stand-run states values₀ kept values b i zero l h s =
+    subst (λ (k : ℕ). Stand states values₀ kept values k (i + 0)) (let z : b ≡ b + 0 = omega arith in z) (subst (λ (k : ℕ). Stand states values₀ kept values b k) (let z : i ≡ i + 0 = omega arith in z) s)
+stand-run states values₀ kept values b i (suc d) l h s =
+    let r = stand-run states values₀ kept values b i d (omega arith) (λ k m p. h k (omega arith) p) s in
+    subst (λ (k : ℕ). Stand states values₀ kept values (b + suc d) k) (let z : i + d + 1 ≡ i + suc d = omega arith in z)
+    (stand-valid states values₀ kept values (b + d) (i + d) (omega arith) r (h (i + d) (omega arith) (omega arith)) (b + suc d) (omega arith))
+
+-- a measured hour, and the hours up to the end of its run
+pub stand-measured : (states values₀ kept values : List ℕ) (b i end b' : ℕ) → i < length states → getD states i 0 ≡ 2 → Measured states (i + 1) end → b' ≡ b + (end - i) → Stand states values₀ kept values b i → Stand states values₀ kept values b' end
+stand-measured states values₀ kept values b i end b' l e m next s =
+    let d = end - (i + 1) in
+    let one = stand-valid states values₀ kept values b i l s e (b + 1) refl in
+    let to : i + 1 + d ≡ end = omega (arith, m .begins) in
+    let all = stand-run states values₀ kept values (b + 1) (i + 1) d (omega (arith, m .ends)) (λ k p q. m .all k (omega arith) q) one in
+    subst (λ (k : ℕ). Stand states values₀ kept values k end) (let z : b + 1 + d ≡ b' = omega arith in z) (subst (λ (k : ℕ). Stand states values₀ kept values (b + 1 + d) k) to all)
 
 -- a gap has an hour
 pub gap-moves : (states : List ℕ) (i gap next : ℕ) → i < length states → getD states i 0 ≡ 1 → Scanned states i gap next → i < next

@@ -20,6 +20,12 @@ pub record Scanned (states : List ℕ) (first gap next : ℕ) : Type 0 where
   pub passes : (k : ℕ) → k < next → first ≤ k → getD states k 0 ≡ 2 → ⊥
   pub stops : next < length states → getD states next 0 ≡ 2
 
+-- from hour `first` up to `end` every hour is measured
+pub record Measured (states : List ℕ) (first end : ℕ) : Type 0 where
+  pub begins : first ≤ end
+  pub ends : end ≤ length states
+  pub all : (k : ℕ) → k < end → first ≤ k → getD states k 0 ≡ 2
+
 -- v where the hour is missing, and what stands there where it is not
 abbrev pub spot : List ℕ → ℕ → List ℕ → ℕ → ℕ
 spot states v values k = pick (eqb (getD states k 0) 1) v (getD values k 0)

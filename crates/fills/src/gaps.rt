@@ -7,7 +7,7 @@ ghost use Rattle.law.specs.Words.{over};
 ghost use Rattle.rules.specs.Slots.{valids};
 ghost use Rattle.rules.specs.Fill.{fill, meanUp, same};
 ghost use Rattle.fills.specs.Gaps.{hoursInBoth, filledCells};
-ghost use Rattle.fills.specs.Parts.{row, Scanned, spot, patched};
+ghost use Rattle.fills.specs.Parts.{row, Measured, Scanned, spot, patched};
 use crate::rule::fill_of;
 use crate::smaller;
 
@@ -31,11 +31,13 @@ fn gather(
     let mut b: usize = 0;
     let mut i: usize = 0;
     while i < states.len() {
-        if states[i] == 2 {
-            cs[b] = concentrations[i];
-            ls[b] = flows[i];
-            b += 1;
+        if states[i] != 2 {
+            i += 1;
+            continue;
         }
+        cs[b] = concentrations[i];
+        ls[b] = flows[i];
+        b += 1;
         i += 1;
     }
     b
@@ -79,8 +81,23 @@ fn fill_one(states: &[u8], values: &mut [u32], kept: &[u32], first: usize, b: us
     requires { ⌜ (first ≤ gap .next) × (gap .next ≤ length (now states)) × (gap .next ≤ length (now values)) × (b ≤ length (now kept)) ⌝ }
     ensures { λ _. ⌜ now (values .exit) ≡ patched (now (states .entry)) (fill meanUp same (gap .missing) (reverse (take b (now (kept .entry)))) (drop b (now (kept .entry)))) first (gap .next) (now (values .entry)) ⌝ }
 {
-    let v = fill_of(gap.missing, &kept[0..b], &kept[b..]);
+    let v = fill_of(gap.missing, kept, b);
     filler(&mut values[first..], &states[first..], gap.next - first, v);
+}
+
+// The first hour from `first` on that is not measured, or the number of hours.
+fn run_end(states: &[u8], first: usize) -> usize
+    requires { ⌜ first ≤ length (now states) ⌝ }
+    ensures { λ r. ⌜ Measured (now (states .entry)) first r ⌝ }
+{
+    let mut k = first;
+    while k < states.len() {
+        if states[k] != 2 {
+            return k;
+        }
+        k += 1;
+    }
+    k
 }
 
 // Every gap, from the first hour on: of the hours before `i`, `empty` are not measured.
@@ -93,7 +110,7 @@ fn walk(states: &[u8], concentrations: &mut [u32], flows: &mut [u32], cs: &[u32]
     while i < states.len() {
         let s = states[i];
         if s == 2 {
-            i += 1;
+            i = run_end(states, i + 1);
         } else {
             if s == 1 {
                 let gap = scan(states, i);

@@ -1,16 +1,11 @@
-// The fill of one gap, by the valid values before it and those after it, both in the order of the hours.
+// The fill of one gap by the valid values of one quantity, in the order of the hours: `b` of them stand before the gap, and the rest after it.
 ghost use mathlib.Core.Path.{_≡_};
 ghost use mathlib.Core.List.{reverse};
-ghost use lib.ListN.{take};
+ghost use Prim.Native.Nat.{_≤_};
+ghost use lib.ListN.{length, take, drop};
 ghost use Rattle.law.specs.Words.{largest};
 ghost use Rattle.rules.specs.Fill.{short, long, fill, meanUp, same};
-
-// The mean, halves up.
-fn mean_up(before: u32, after: u32) -> u32
-    ensures { λ r. ⌜ r ≡ meanUp before after ⌝ }
-{
-    (((before as u64) + (after as u64) + 1) / 2) as u32
-}
+use crate::smaller;
 
 fn largest_of(s: &[u32]) -> u32
     ensures { λ r. ⌜ r ≡ largest (now (s .entry)) ⌝ }
@@ -27,66 +22,53 @@ fn largest_of(s: &[u32]) -> u32
     r
 }
 
-// The largest of the last 720.
-fn largest_before(s: &[u32]) -> u32
-    ensures { λ r. ⌜ r ≡ largest (take 720 (reverse (now (s .entry)))) ⌝ }
+// The mean, halves up.
+fn mean_up(before: u32, after: u32) -> u32
+    ensures { λ r. ⌜ r ≡ meanUp before after ⌝ }
 {
-    let n = s.len();
-    if 720 < n {
-        let from = n - 720;
-        largest_of(&s[from..])
-    } else {
-        largest_of(s)
-    }
-}
-
-// The largest of the first 720.
-fn largest_after(s: &[u32]) -> u32
-    ensures { λ r. ⌜ r ≡ largest (take 720 (now (s .entry))) ⌝ }
-{
-    let n = s.len();
-    if 720 < n {
-        largest_of(&s[0..720])
-    } else {
-        largest_of(s)
-    }
+    (((before as u64) + (after as u64) + 1) / 2) as u32
 }
 
 // A gap of 24 or fewer: the two nearest, or the one side that there is.
-fn short_fill(before: &[u32], after: &[u32]) -> u32
-    ensures { λ r. ⌜ r ≡ short meanUp same (reverse (now (before .entry))) (now (after .entry)) ⌝ }
+fn short_fill(valid: &[u32], b: usize) -> u32
+    requires { ⌜ b ≤ length (now valid) ⌝ }
+    ensures { λ r. ⌜ r ≡ short meanUp same (reverse (take b (now (valid .entry)))) (drop b (now (valid .entry))) ⌝ }
 {
-    let b = before.len();
+    let n = valid.len();
     if b == 0 {
-        if after.len() == 0 {
+        if n == 0 {
             return 0;
         }
-        return after[0];
+        return valid[0];
     }
-    let last = before[b - 1];
-    if after.len() == 0 {
+    let last = valid[b - 1];
+    if b == n {
         return last;
     }
-    mean_up(last, after[0])
+    mean_up(last, valid[b])
 }
 
-// A gap of 25 or more: what lies before it, and what lies after it only where nothing does.
-fn long_fill(before: &[u32], after: &[u32]) -> u32
-    ensures { λ r. ⌜ r ≡ long meanUp same (reverse (now (before .entry))) (now (after .entry)) ⌝ }
+// A gap of 25 or more: the last 720 before it, and the first 720 after it only where none lies before it.
+fn long_fill(valid: &[u32], b: usize) -> u32
+    requires { ⌜ b ≤ length (now valid) ⌝ }
+    ensures { λ r. ⌜ r ≡ long meanUp same (reverse (take b (now (valid .entry)))) (drop b (now (valid .entry))) ⌝ }
 {
-    if before.len() == 0 {
-        largest_after(after)
+    if b == 0 {
+        let end = smaller(valid.len(), 720);
+        largest_of(&valid[0..end])
     } else {
-        largest_before(before)
+        let start = b - smaller(b, 720);
+        largest_of(&valid[start..b])
     }
 }
 
-pub fn fill_of(gap: usize, before: &[u32], after: &[u32]) -> u32
-    ensures { λ r. ⌜ r ≡ fill meanUp same gap (reverse (now (before .entry))) (now (after .entry)) ⌝ }
+pub fn fill_of(gap: usize, valid: &[u32], b: usize) -> u32
+    requires { ⌜ b ≤ length (now valid) ⌝ }
+    ensures { λ r. ⌜ r ≡ fill meanUp same gap (reverse (take b (now (valid .entry)))) (drop b (now (valid .entry))) ⌝ }
 {
     if gap <= 24 {
-        short_fill(before, after)
+        short_fill(valid, b)
     } else {
-        long_fill(before, after)
+        long_fill(valid, b)
     }
 }

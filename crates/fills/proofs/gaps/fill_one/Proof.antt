@@ -1,39 +1,16 @@
 -- `gaps::fill_one` meets its contract. Assumes nothing.
-use mathlib.Core.Path.{_≡_, _∙_, sym, ap, ap₂}
-use mathlib.Core.List.{List, _++_, reverse}
+use mathlib.Core.Path.{_∙_, ap, ap₂}
+use mathlib.Core.List.{List, _++_}
 use Prim.Native.Nat.{ℕ, _-_}
-use native.Mathlib.Nat.{sub-zero}
-use lib.ListN.{length, take, drop}
+use lib.ListN.{take, drop}
 use denote.Ref.{now}
 use Rattle.law.specs.Words.{over}
 use Rattle.law.proofs.Over.{part-back}
-use Rattle.rules.specs.Fill.{fill, meanUp, same}
 use Rattle.fills.specs.Parts.{spot, patched}
 use Rattle.fills.proofs.Walk.{part-whole}
 use borrow.Author.Needs.{needs}
 use Rattle.fills.proofs.gaps.fill_one.Statement.{statement}
 use Rattle.fills.proofs.gaps.fill_one.Tie as tie
-
-sub-fill-of : tie.Need-sub-fill-of
-sub-fill-of c = search needs
-
-part-fill-of-start : tie.Need-part-fill-of-start
-part-fill-of-start c = search needs
-
-part-fill-of-end : tie.Need-part-fill-of-end
-part-fill-of-end c = search needs
-
-mul-fill-of : tie.Need-mul-fill-of
-mul-fill-of c = search needs
-
-sub-fill-of-2 : tie.Need-sub-fill-of-2
-sub-fill-of-2 c = search needs
-
-part-fill-of-start-2 : tie.Need-part-fill-of-start-2
-part-fill-of-start-2 c = search needs
-
-part-fill-of-end-2 : tie.Need-part-fill-of-end-2
-part-fill-of-end-2 c = search needs
 
 fill-of-requires : tie.Need-fill-of-requires
 fill-of-requires c κs = search needs
@@ -71,27 +48,19 @@ same-length c = search needs
 returns : tie.Need-returns
 returns c = let f = c .before .before in
     let v = f .before .before .before .before in
-    let a = v .before .before .before .before .before .before .args in
+    let a = v .before .before .before .before .args in
     let x = now (a .values) in
     let s = now (a .states) in
-    let k = now (a .kept) in
     let i = a .first in
     let n = a .gap .next in
     part-back _ x _ i (n - i) (f .filler .ensures)
     ∙ ap₂ (λ (t u : List ℕ). take i x ++ over (spot t (v .fill-of .result) u) (n - i) (drop i x)) (part-whole i s) (part-whole i x)
-    ∙ ap (λ (z : ℕ). patched s z i n x) (v .fill-of .ensures ∙ ap₂ (λ (b : ℕ) (t : List ℕ). fill meanUp same (a .gap .missing) (reverse (take b k)) t) (sub-zero (a .b)) (part-whole (a .b) k))
+    ∙ ap (λ (z : ℕ). patched s z i n x) (v .fill-of .ensures)
 
 pub fill-one-spec : {M : Type 1} → statement M
 fill-one-spec =
     tie.close
     (tie.spec
-    sub-fill-of
-    part-fill-of-start
-    part-fill-of-end
-    mul-fill-of
-    sub-fill-of-2
-    part-fill-of-start-2
-    part-fill-of-end-2
     fill-of-requires
     mul-filler
     sub-filler

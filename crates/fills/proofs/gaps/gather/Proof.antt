@@ -1,9 +1,8 @@
--- `gaps::gather` meets its contract. Assumes nothing.
-use mathlib.Core.Logic.{⊎-elim}
+-- `gaps::gather` meets its contract: what it holds is held in each quantity. Assumes nothing.
+use mathlib.Core.Path.{refl}
 use Prim.Native.Nat.{_-_, _≤_}
 use native.Mathlib.Omega.{arith}
 use lib.ListN.{length}
-use denote.Ref.{now}
 use Rattle.fills.proofs.Gather.{Gathered, gathered-start, gathered-valid, gathered-empty, gathered-done}
 use borrow.Author.Needs.{needs}
 use Rattle.fills.proofs.gaps.gather.Statement.{statement}
@@ -21,6 +20,17 @@ loop-holds c = (search needs, search needs, gathered-start _ _ _, gathered-start
 
 shared-slice-read-if1 : tie.Need-shared-slice-read-if1 Inv-loop μ-loop
 shared-slice-read-if1 c = search needs
+
+add-i : tie.Need-add-i Inv-loop μ-loop
+add-i c = search needs
+
+loop-less : tie.Need-loop-less Inv-loop μ-loop
+loop-less c = search needs
+
+loop-again : tie.Need-loop-again Inv-loop μ-loop
+loop-again c = let l = c .before .before .before .loop in
+    let here = c .before .before .loop-test .taken in
+    (search needs, search needs, gathered-empty _ _ _ _ _ (l .i) here (l .inv .2) (c .if1 .taken), gathered-empty _ _ _ _ _ (l .i) here (l .inv .3) (c .if1 .taken))
 
 mul-cs : tie.Need-mul-cs Inv-loop μ-loop
 mul-cs c = search needs
@@ -49,22 +59,17 @@ slice-write-ls c = search needs
 add-b : tie.Need-add-b Inv-loop μ-loop
 add-b c = search needs
 
-add-i : tie.Need-add-i Inv-loop μ-loop
-add-i c = search needs
+add-i-2 : tie.Need-add-i-2 Inv-loop μ-loop
+add-i-2 c = search needs
 
-loop-less : tie.Need-loop-less Inv-loop μ-loop
-loop-less c = search needs
+loop-less-2 : tie.Need-loop-less-2 Inv-loop μ-loop
+loop-less-2 c = search needs
 
-loop-again : tie.Need-loop-again Inv-loop μ-loop
-loop-again c = let l = c .before .before .before .loop in
-    let a = c .before .before .before .before .args in
-    let s = now (a .states) in
-    let cs = gathered-valid s (now (a .concentrations)) (now (a .cs)) (l .cs) (l .b) (l .i) (omega arith) (l .inv .2) in
-    let ls = gathered-valid s (now (a .flows)) (now (a .ls)) (l .ls) (l .b) (l .i) (omega arith) (l .inv .3) in
-    ⊎-elim
-    (λ w. (omega arith, omega arith, gathered-valid s (now (a .concentrations)) (now (a .cs)) (l .cs) (l .b) (l .i) (omega arith) (l .inv .2) _ _ (w .0 .taken) (omega arith) (w .3) (w .5), gathered-valid s (now (a .flows)) (now (a .ls)) (l .ls) (l .b) (l .i) (omega arith) (l .inv .3) _ _ (w .0 .taken) (omega arith) (w .4) (w .5)))
-    (λ w. (omega arith, omega arith, gathered-empty s (now (a .concentrations)) (now (a .cs)) (l .cs) (l .b) (l .i) (omega arith) (l .inv .2) _ _ (w .0 .left) (w .1) (w .3), gathered-empty s (now (a .flows)) (now (a .ls)) (l .ls) (l .b) (l .i) (omega arith) (l .inv .3) _ _ (w .0 .left) (w .2) (w .3)))
-    (c .if1 .came)
+loop-again-2 : tie.Need-loop-again-2 Inv-loop μ-loop
+loop-again-2 c = let v = c .before .before in
+    let l = v .before .before .before .loop in
+    let here = v .before .before .loop-test .taken in
+    (search needs, search needs, gathered-valid _ _ _ _ _ (l .i) here (l .inv .2) (v .if1 .left) (omega arith), gathered-valid _ _ _ _ _ (l .i) here (l .inv .3) (v .if1 .left) (omega arith))
 
 same-length : tie.Need-same-length Inv-loop μ-loop
 same-length c = search needs
@@ -74,7 +79,8 @@ same-length-2 c = search needs
 
 returns : tie.Need-returns Inv-loop μ-loop
 returns c = let l = c .before .loop in
-    (omega arith, gathered-done _ _ _ _ _ (l .i) (omega arith) (l .inv .2), gathered-done _ _ _ _ _ (l .i) (omega arith) (l .inv .3))
+    let end = c .loop-test .left in
+    (search needs, gathered-done _ _ _ _ _ (l .i) end (l .inv .2), gathered-done _ _ _ _ _ (l .i) end (l .inv .3))
 
 pub gather-spec : {M : Type 1} → statement M
 gather-spec =
@@ -84,6 +90,9 @@ gather-spec =
     μ-loop
     loop-holds
     shared-slice-read-if1
+    add-i
+    loop-less
+    loop-again
     mul-cs
     shared-slice-read-cs
     mul-cs-2
@@ -93,9 +102,9 @@ gather-spec =
     mul-ls-2
     slice-write-ls
     add-b
-    add-i
-    loop-less
-    loop-again
+    add-i-2
+    loop-less-2
+    loop-again-2
     same-length
     same-length-2
     returns)

@@ -1,10 +1,9 @@
 -- `gaps::walk` meets its contract: what it holds is held in each quantity. Assumes nothing.
 use mathlib.Core.Path.{_≡_}
-use Prim.Native.Nat.{_-_, _<_, _≤_}
+use Prim.Native.Nat.{_+_, _-_, _<_, _≤_}
 use native.Mathlib.Omega.{arith}
 use lib.ListN.{length}
-use denote.Ref.{now}
-use Rattle.fills.proofs.Walk.{Stand, stand-start, stand-valid, stand-stopped, stand-gap, stand-end, gap-moves}
+use Rattle.fills.proofs.Walk.{Stand, stand-start, stand-measured, stand-stopped, stand-gap, stand-end, gap-moves}
 use borrow.Author.Needs.{needs}
 use Rattle.fills.proofs.gaps.walk.Statement.{statement}
 use Rattle.fills.proofs.gaps.walk.Tie as tie
@@ -23,16 +22,23 @@ loop-holds c = let p = c .before .before .before .before .before .pre in
 shared-slice-read-s : tie.Need-shared-slice-read-s Inv-loop μ-loop
 shared-slice-read-s c = search needs
 
-add-i : tie.Need-add-i Inv-loop μ-loop
-add-i c = search needs
+add-run-end : tie.Need-add-run-end Inv-loop μ-loop
+add-run-end c = search needs
+
+run-end-requires : tie.Need-run-end-requires Inv-loop μ-loop
+run-end-requires c κs = search needs
 
 loop-less : tie.Need-loop-less Inv-loop μ-loop
-loop-less c = search needs
+loop-less c = omega (arith, c .run-end .ensures .begins, c .run-end .ensures .ends)
 
 loop-again : tie.Need-loop-again Inv-loop μ-loop
-loop-again c = let l = c .before .before .before .loop in
-    let t = c .before .before .before .before in
-    (omega arith, stand-valid _ _ _ _ _ (l .i) (omega arith) (l .inv .1) (c .if1 .taken) _ (omega arith), stand-valid _ _ _ _ _ (l .i) (omega arith) (l .inv .2) (c .if1 .taken) _ (omega arith))
+loop-again c = let m = c .run-end .ensures in
+    let h = c .before .before .before in
+    let l = h .before .loop in
+    let end = c .run-end .result in
+    let from = m .begins in
+    let b : end - l .empty ≡ l .i - l .empty + (end - l .i) = omega arith in
+    (omega arith, stand-measured _ _ _ _ _ (l .i) end _ (h .loop-test .taken) (c .before .if1 .taken) m b (l .inv .1), stand-measured _ _ _ _ _ (l .i) end _ (h .loop-test .taken) (c .before .if1 .taken) m b (l .inv .2))
 
 scan-requires : tie.Need-scan-requires Inv-loop μ-loop
 scan-requires c κs = search needs
@@ -51,32 +57,36 @@ sub-empty c = search needs
 
 loop-less-2 : tie.Need-loop-less-2 Inv-loop μ-loop
 loop-less-2 c = let g = c .before .before .before .before .before .before .before .before in
-    let l = g .before .before .before .before .before .loop in
-    let m : l .i < g .scan .result .next = gap-moves _ (l .i) _ (g .scan .result .next) (omega arith) (g .before .if2 .taken) (g .scan .ensures) in
+    let h = g .before .before .before .before in
+    let l = h .before .loop in
+    let m = gap-moves _ (l .i) _ (g .scan .result .next) (h .loop-test .taken) (g .before .if2 .taken) (g .scan .ensures) in
     omega (arith, g .scan .ensures .ends)
 
 loop-again-2 : tie.Need-loop-again-2 Inv-loop μ-loop
 loop-again-2 c = let f = c .before .before in
-    let h = f .before .before .before .before in
-    let g = h .before .before in
-    let l = g .before .before .before .before .before .loop in
+    let v = f .before .before .before .before in
+    let g = v .before .before in
+    let h = g .before .before .before .before in
+    let l = h .before .loop in
     let n = g .scan .result .next in
-    let m : l .i < n = gap-moves _ (l .i) _ n (omega arith) (g .before .if2 .taken) (g .scan .ensures) in
+    let m = gap-moves _ (l .i) _ n (h .loop-test .taken) (g .before .if2 .taken) (g .scan .ensures) in
     let b : n - (n - (l .i - l .empty)) ≡ l .i - l .empty = omega arith in
-    (omega arith, stand-gap _ _ _ _ _ (l .i) (omega arith) (l .inv .1) (g .before .if2 .taken) _ n (g .scan .ensures) _ (h .fill-one .ensures) _ b, stand-gap _ _ _ _ _ (l .i) (omega arith) (l .inv .2) (g .before .if2 .taken) _ n (g .scan .ensures) _ (f .fill-one2 .ensures) _ b)
+    (omega arith, stand-gap _ _ _ _ _ (l .i) (h .loop-test .taken) (l .inv .1) (g .before .if2 .taken) _ n (g .scan .ensures) _ (v .fill-one .ensures) _ b, stand-gap _ _ _ _ _ (l .i) (h .loop-test .taken) (l .inv .2) (g .before .if2 .taken) _ n (g .scan .ensures) _ (f .fill-one2 .ensures) _ b)
 
 add-empty : tie.Need-add-empty Inv-loop μ-loop
 add-empty c = search needs
 
-add-i-2 : tie.Need-add-i-2 Inv-loop μ-loop
-add-i-2 c = search needs
+add-i : tie.Need-add-i Inv-loop μ-loop
+add-i c = search needs
 
 loop-less-3 : tie.Need-loop-less-3 Inv-loop μ-loop
 loop-less-3 c = search needs
 
 loop-again-3 : tie.Need-loop-again-3 Inv-loop μ-loop
-loop-again-3 c = let l = c .before .before .before .before .loop in
-    (omega arith, stand-stopped _ _ _ _ _ (l .i) (omega arith) (l .inv .1) (c .before .if1 .left) (c .if2 .left) _ (omega arith), stand-stopped _ _ _ _ _ (l .i) (omega arith) (l .inv .2) (c .before .if1 .left) (c .if2 .left) _ (omega arith))
+loop-again-3 c = let h = c .before .before .before in
+    let l = h .before .loop in
+    let b : l .i + 1 - (l .empty + 1) ≡ l .i - l .empty = omega arith in
+    (omega arith, stand-stopped _ _ _ _ _ (l .i) (h .loop-test .taken) (l .inv .1) (c .before .if1 .left) (c .if2 .left) _ b, stand-stopped _ _ _ _ _ (l .i) (h .loop-test .taken) (l .inv .2) (c .before .if1 .left) (c .if2 .left) _ b)
 
 same-length : tie.Need-same-length Inv-loop μ-loop
 same-length c = search needs
@@ -86,7 +96,8 @@ same-length-2 c = search needs
 
 returns : tie.Need-returns Inv-loop μ-loop
 returns c = let l = c .before .loop in
-    (stand-end _ _ _ _ _ (l .i) (omega arith) (omega arith) (l .inv .1), stand-end _ _ _ _ _ (l .i) (omega arith) (omega arith) (l .inv .2))
+    let few = c .before .before .before .before .before .before .before .pre .0 in
+    (stand-end _ _ _ _ _ (l .i) few (c .loop-test .left) (l .inv .1), stand-end _ _ _ _ _ (l .i) few (c .loop-test .left) (l .inv .2))
 
 pub walk-spec : {M : Type 1} → statement M
 walk-spec =
@@ -96,7 +107,8 @@ walk-spec =
     μ-loop
     loop-holds
     shared-slice-read-s
-    add-i
+    add-run-end
+    run-end-requires
     loop-less
     loop-again
     scan-requires
@@ -107,7 +119,7 @@ walk-spec =
     loop-less-2
     loop-again-2
     add-empty
-    add-i-2
+    add-i
     loop-less-3
     loop-again-3
     same-length

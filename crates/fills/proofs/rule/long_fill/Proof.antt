@@ -1,36 +1,90 @@
 -- `rule::long_fill` meets its contract. Assumes nothing.
-use mathlib.Core.Path.{_∙_, sym, ap}
+use mathlib.Core.Path.{_≡_, _∙_, sym, ap}
 use mathlib.Core.List.{List, reverse}
-use Prim.Native.Nat.{ℕ, _<_}
+use Prim.Native.Nat.{ℕ, _-_, _<_, min}
 use native.Mathlib.Omega.{arith}
-use lib.ListN.{length, take}
+use native.Mathlib.Nat.{sub-zero}
+use lib.ListN.{length, take, drop}
 use denote.Ref.{now}
 use Rattle.law.specs.Words.{largest}
 use Rattle.rules.specs.Fill.{window, long, meanUp, same}
-use Rattle.fills.proofs.Largest.{none-of, last-of}
+use Rattle.fills.proofs.Largest.{take-few, largest-before, last-before}
 use borrow.Author.Needs.{needs}
 use Rattle.fills.proofs.rule.long_fill.Statement.{statement}
 use Rattle.fills.proofs.rule.long_fill.Tie as tie
 
-largest-after-requires : tie.Need-largest-after-requires
-largest-after-requires c κs = search needs
+smaller-requires : tie.Need-smaller-requires
+smaller-requires c κs = search needs
 
-largest-before-requires : tie.Need-largest-before-requires
-largest-before-requires c κs = search needs
+sub-largest-of : tie.Need-sub-largest-of
+sub-largest-of c = search needs
+
+part-largest-of-start : tie.Need-part-largest-of-start
+part-largest-of-start c = search needs
+
+part-largest-of-end : tie.Need-part-largest-of-end
+part-largest-of-end c = search needs
+
+largest-of-requires : tie.Need-largest-of-requires
+largest-of-requires c κs = search needs
+
+smaller-requires-2 : tie.Need-smaller-requires-2
+smaller-requires-2 c κs = search needs
+
+sub-start : tie.Need-sub-start
+sub-start c = search needs
+
+mul-largest-of : tie.Need-mul-largest-of
+mul-largest-of c = search needs
+
+sub-largest-of-2 : tie.Need-sub-largest-of-2
+sub-largest-of-2 c = search needs
+
+part-largest-of-start-2 : tie.Need-part-largest-of-start-2
+part-largest-of-start-2 c = search needs
+
+part-largest-of-end-2 : tie.Need-part-largest-of-end-2
+part-largest-of-end-2 c = search needs
+
+largest-of-requires-2 : tie.Need-largest-of-requires-2
+largest-of-requires-2 c κs = search needs
 
 returns : tie.Need-returns
 unfolding long window same
-returns c =
-    let a = c .before .before .before .before .args in
-    c .largest-after .ensures ∙ sym (ap (λ (t : List ℕ). long meanUp same (reverse t) (now (a .after))) (none-of (now (a .before)) (c .before .if1 .taken)))
+returns c = let n = c .before .before in
+    let a = n .before .before .before .args in
+    let v = now (a .valid) in
+    c .largest-of .ensures
+    ∙ ap (λ (k : ℕ). largest (take k v)) (sub-zero (n .smaller .result) ∙ n .smaller .ensures)
+    ∙ ap largest (take-few 720 v)
+    ∙ sym (ap (λ (k : ℕ). long meanUp same (reverse (take k v)) (drop k v)) (n .before .if1 .taken))
 
 returns-2 : tie.Need-returns-2
 unfolding long window same
-returns-2 c =
-    let a = c .before .before .before .before .args in
-    let e = last-of (now (a .before)) (let z : 0 < length (now (a .before)) = omega arith in z) in
-    c .largest-before .ensures ∙ ap (λ (t : List ℕ). largest (take 720 t)) e ∙ sym (ap (λ (t : List ℕ). long meanUp same t (now (a .after))) e)
+returns-2 c = let n = c .before .before in
+    let a = n .before .before .before .args in
+    let v = now (a .valid) in
+    let e = last-before (a .b) v (omega arith) (omega arith) in
+    c .largest-of2 .ensures
+    ∙ largest-before 720 (a .b) (n .smaller2 .result) v (omega arith) (n .smaller2 .ensures)
+    ∙ ap (λ (t : List ℕ). largest (take 720 t)) e
+    ∙ sym (ap (λ (t : List ℕ). long meanUp same t (drop (a .b) v)) e)
 
 pub long-fill-spec : {M : Type 1} → statement M
 long-fill-spec =
-    tie.close (tie.spec largest-after-requires largest-before-requires returns returns-2)
+    tie.close
+    (tie.spec
+    smaller-requires
+    sub-largest-of
+    part-largest-of-start
+    part-largest-of-end
+    largest-of-requires
+    smaller-requires-2
+    sub-start
+    mul-largest-of
+    sub-largest-of-2
+    part-largest-of-start-2
+    part-largest-of-end-2
+    largest-of-requires-2
+    returns
+    returns-2)

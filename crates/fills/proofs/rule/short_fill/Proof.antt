@@ -1,28 +1,31 @@
 -- `rule::short_fill` meets its contract. Assumes nothing.
-use mathlib.Core.Path.{_∙_, sym, ap, ap₂}
-use mathlib.Core.List.{reverse}
+use mathlib.Core.Path.{_≡_, _∙_, sym, ap, ap₂}
+use mathlib.Core.List.{List, reverse}
+use Prim.Native.Nat.{ℕ, _≤_}
 use native.Mathlib.Omega.{arith}
+use lib.ListN.{length, take, drop, drop-of-length-le}
+use lib.Seq.{drop-cons}
 use denote.Ref.{now}
 use Rattle.rules.specs.Fill.{short, meanUp, same}
-use Rattle.fills.proofs.Largest.{none-of, first-of, last-of}
+use Rattle.fills.proofs.Largest.{none-of, last-before}
 use borrow.Author.Needs.{needs}
 use Rattle.fills.proofs.rule.short_fill.Statement.{statement}
 use Rattle.fills.proofs.rule.short_fill.Tie as tie
 
 returns : tie.Need-returns
 unfolding short same
-returns c =
-    let a = c .before .before .before .before .args in
-    sym (ap₂ (short meanUp same) (ap reverse (none-of (now (a .before)) (omega arith))) (none-of (now (a .after)) (omega arith)))
+returns c = let a = c .before .before .before .args in
+    let v = now (a .valid) in
+    sym (ap (λ (k : ℕ). short meanUp same (reverse (take k v)) (drop k v)) (c .before .if1 .taken) ∙ ap (short meanUp same (reverse (take 0 v))) (none-of v (c .if2 .taken)))
 
 shared-slice-read-result : tie.Need-shared-slice-read-result
 shared-slice-read-result c = search needs
 
 returns-2 : tie.Need-returns-2
 unfolding short same
-returns-2 c =
-    let a = c .before .before .before .before .before .args in
-    sym (ap₂ (short meanUp same) (ap reverse (none-of (now (a .before)) (omega arith))) (first-of (now (a .after)) (omega arith)))
+returns-2 c = let a = c .before .before .before .before .args in
+    let v = now (a .valid) in
+    sym (ap (λ (k : ℕ). short meanUp same (reverse (take k v)) (drop k v)) (c .before .before .if1 .taken) ∙ ap (short meanUp same (reverse (take 0 v))) (drop-cons v 0 0 (omega arith)))
 
 sub-last : tie.Need-sub-last
 sub-last c = search needs
@@ -35,9 +38,12 @@ shared-slice-read-last c = search needs
 
 returns-3 : tie.Need-returns-3
 unfolding short same
-returns-3 c =
-    let a = c .before .before .before .before .before .args in
-    sym (ap₂ (short meanUp same) (last-of (now (a .before)) (omega arith)) (none-of (now (a .after)) (omega arith)))
+returns-3 c = let a = c .before .before .before .before .args in
+    let v = now (a .valid) in
+    sym (ap₂ (short meanUp same) (last-before (a .b) v (omega arith) (omega arith)) (drop-of-length-le v (let l : length v ≤ a .b = omega arith in l)))
+
+mul-mean-up : tie.Need-mul-mean-up
+mul-mean-up c = search needs
 
 shared-slice-read-mean-up : tie.Need-shared-slice-read-mean-up
 shared-slice-read-mean-up c = search needs
@@ -47,9 +53,9 @@ mean-up-requires c κs = search needs
 
 returns-4 : tie.Need-returns-4
 unfolding short same
-returns-4 c =
-    let a = c .before .before .before .before .before .before .before .args in
-    c .mean-up .ensures ∙ sym (ap₂ (short meanUp same) (last-of (now (a .before)) (omega arith)) (first-of (now (a .after)) (omega arith)))
+returns-4 c = let a = c .before .before .before .before .before .before .args in
+    let v = now (a .valid) in
+    c .mean-up .ensures ∙ sym (ap₂ (short meanUp same) (last-before (a .b) v (omega arith) (omega arith)) (drop-cons v (a .b) 0 (omega arith)))
 
 pub short-fill-spec : {M : Type 1} → statement M
 short-fill-spec =
@@ -62,6 +68,7 @@ short-fill-spec =
     mul-last
     shared-slice-read-last
     returns-3
+    mul-mean-up
     shared-slice-read-mean-up
     mean-up-requires
     returns-4)
