@@ -143,9 +143,7 @@ fn fill_both(states: &[u8], concentrations: &mut [u32], flows: &mut [u32])
 pub fn fill_gaps(states: &[u8], concentrations: &mut [u32], flows: &mut [u32])
     ensures { λ _. ⌜ (now (concentrations .exit) ≡ filledCells (take (hoursInBoth (now (states .entry)) (now (concentrations .entry)) (now (flows .entry))) (now (states .entry))) (now (concentrations .entry))) × (now (flows .exit) ≡ filledCells (take (hoursInBoth (now (states .entry)) (now (concentrations .entry)) (now (flows .entry))) (now (states .entry))) (now (flows .entry))) ⌝ }
 {
-    let hours = smaller(
-        smaller(smaller(states.len(), concentrations.len()), flows.len()),
-        2208,
-    );
+    let both = smaller(smaller(states.len(), concentrations.len()), flows.len());
+    let hours = smaller(both, 2208);
     fill_both(&states[0..hours], concentrations, flows);
 }

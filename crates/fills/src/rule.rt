@@ -53,12 +53,12 @@ fn long_fill(valid: &[u32], b: usize) -> u32
     requires { ⌜ b ≤ length (now valid) ⌝ }
     ensures { λ r. ⌜ r ≡ long meanUp same (reverse (take b (now (valid .entry)))) (drop b (now (valid .entry))) ⌝ }
 {
-    if b == 0 {
-        let end = smaller(valid.len(), 720);
-        largest_of(&valid[0..end])
-    } else {
+    if 0 < b {
         let start = b - smaller(b, 720);
         largest_of(&valid[start..b])
+    } else {
+        let end = smaller(valid.len(), 720);
+        largest_of(&valid[0..end])
     }
 }
 

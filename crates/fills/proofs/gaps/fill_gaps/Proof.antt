@@ -1,9 +1,9 @@
 -- `gaps::fill_gaps` meets its contract. Assumes nothing.
 use mathlib.Core.Path.{_≡_, _∙_, ap}
 use mathlib.Core.List.{List}
-use Prim.Native.Nat.{ℕ, _-_}
-use native.Mathlib.Omega.{arith}
-use lib.ListN.{take}
+use Prim.Native.Nat.{ℕ, _-_, min}
+use native.Mathlib.Nat.{sub-zero}
+use lib.ListN.{length, take}
 use denote.Ref.{now}
 use Rattle.fills.specs.Gaps.{hoursInBoth, filledCells}
 use borrow.Author.Needs.{needs}
@@ -43,7 +43,8 @@ returns c = let f = c .before .before .before .before in
     let n = f .before .before .before .before in
     let a = n .before .before .before .before .before .before .args in
     let s = now (a .states) in
-    let e : n .smaller3 .result - 0 ≡ hoursInBoth s (now (a .concentrations)) (now (a .flows)) = omega (arith, n .smaller3 .ensures, n .before .smaller2 .ensures, n .before .before .smaller .ensures) in
+    let e : n .smaller3 .result - 0 ≡ hoursInBoth s (now (a .concentrations)) (now (a .flows)) =
+    sub-zero _ ∙ n .smaller3 .ensures ∙ ap (λ (k : ℕ). min k 2_208) (n .before .smaller2 .ensures ∙ ap (λ (k : ℕ). min k (length (now (a .flows)))) (n .before .before .smaller .ensures)) in
     (f .fill-both .ensures .0 ∙ ap (λ (k : ℕ). filledCells (take k s) (now (a .concentrations))) e, f .fill-both .ensures .1 ∙ ap (λ (k : ℕ). filledCells (take k s) (now (a .flows))) e)
 
 pub fill-gaps-spec : {M : Type 1} → statement M

@@ -1,10 +1,10 @@
 -- `rule::long_fill` meets its contract. Assumes nothing.
 use mathlib.Core.Path.{_≡_, _∙_, sym, ap}
 use mathlib.Core.List.{List, reverse}
-use Prim.Native.Nat.{ℕ, _-_, _<_, min}
-use native.Mathlib.Omega.{arith}
+use Prim.Native.Nat.{ℕ}
 use native.Mathlib.Nat.{sub-zero}
-use lib.ListN.{length, take, drop}
+use native.Mathlib.Omega.{arith}
+use lib.ListN.{take, drop}
 use denote.Ref.{now}
 use Rattle.law.specs.Words.{largest}
 use Rattle.rules.specs.Fill.{window, long, meanUp, same}
@@ -15,6 +15,12 @@ use Rattle.fills.proofs.rule.long_fill.Tie as tie
 
 smaller-requires : tie.Need-smaller-requires
 smaller-requires c κs = search needs
+
+sub-start : tie.Need-sub-start
+sub-start c = search needs
+
+mul-largest-of : tie.Need-mul-largest-of
+mul-largest-of c = search needs
 
 sub-largest-of : tie.Need-sub-largest-of
 sub-largest-of c = search needs
@@ -30,12 +36,6 @@ largest-of-requires c κs = search needs
 
 smaller-requires-2 : tie.Need-smaller-requires-2
 smaller-requires-2 c κs = search needs
-
-sub-start : tie.Need-sub-start
-sub-start c = search needs
-
-mul-largest-of : tie.Need-mul-largest-of
-mul-largest-of c = search needs
 
 sub-largest-of-2 : tie.Need-sub-largest-of-2
 sub-largest-of-2 c = search needs
@@ -54,34 +54,36 @@ unfolding long window same
 returns c = let n = c .before .before in
     let a = n .before .before .before .args in
     let v = now (a .valid) in
+    let fits = n .before .before .before .pre in
+    let e = last-before (a .b) v (n .before .if1 .taken) fits in
     c .largest-of .ensures
-    ∙ ap (λ (k : ℕ). largest (take k v)) (sub-zero (n .smaller .result) ∙ n .smaller .ensures)
-    ∙ ap largest (take-few 720 v)
-    ∙ sym (ap (λ (k : ℕ). long meanUp same (reverse (take k v)) (drop k v)) (n .before .if1 .taken))
+    ∙ largest-before 720 (a .b) (n .smaller .result) v fits (n .smaller .ensures)
+    ∙ ap (λ (t : List ℕ). largest (take 720 t)) e
+    ∙ sym (ap (λ (t : List ℕ). long meanUp same t (drop (a .b) v)) e)
 
 returns-2 : tie.Need-returns-2
 unfolding long window same
 returns-2 c = let n = c .before .before in
     let a = n .before .before .before .args in
     let v = now (a .valid) in
-    let e = last-before (a .b) v (omega arith) (omega arith) in
+    let none : 0 ≡ a .b = omega arith in
     c .largest-of2 .ensures
-    ∙ largest-before 720 (a .b) (n .smaller2 .result) v (omega arith) (n .smaller2 .ensures)
-    ∙ ap (λ (t : List ℕ). largest (take 720 t)) e
-    ∙ sym (ap (λ (t : List ℕ). long meanUp same t (drop (a .b) v)) e)
+    ∙ ap (λ (k : ℕ). largest (take k v)) (sub-zero (n .smaller2 .result) ∙ n .smaller2 .ensures)
+    ∙ ap largest (take-few 720 v)
+    ∙ ap (λ (k : ℕ). long meanUp same (reverse (take k v)) (drop k v)) none
 
 pub long-fill-spec : {M : Type 1} → statement M
 long-fill-spec =
     tie.close
     (tie.spec
     smaller-requires
+    sub-start
+    mul-largest-of
     sub-largest-of
     part-largest-of-start
     part-largest-of-end
     largest-of-requires
     smaller-requires-2
-    sub-start
-    mul-largest-of
     sub-largest-of-2
     part-largest-of-start-2
     part-largest-of-end-2
