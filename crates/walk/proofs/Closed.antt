@@ -24,7 +24,8 @@ use Rattle.walk.specs.Views.{afterEnd}
 use Rattle.rules.specs.Judge.{fine}
 use Rattle.law.proofs.Tables.{table-length}
 use Rattle.hours.specs.States.{stateAt}
-use Rattle.fills.specs.Gaps.{hoursIn, filledCells}
+use Rattle.fills.specs.Gaps.{hoursIn, hoursInBoth, filledCells}
+use Rattle.fills.proofs.Filled.{filled-both}
 use Rattle.fills.specs.Weights.{products}
 use Rattle.fills.proofs.States.{hours-all}
 use Rattle.fills.proofs.Bounds.{largest-each, filled-most, products-most}
@@ -39,10 +40,14 @@ states-part runs measured days cells st l e s =
     ap₂ take z (s ∙ ap (λ (k : ℕ). over (stateAt runs measured) k cells) n)
     ∙ take-at (table (stateAt runs measured) (24 * days)) (drop (24 * days) cells) (24 * days) (table-length (stateAt runs measured) (24 * days))
 
-pub states-are : (runs measured : List ℕ) (days : ℕ) (cells st cs cs' : List ℕ) → days ≤ 92 → length cells ≡ 2_208
-    → st ≡ over (stateAt runs measured) (min (24 * days) (length cells)) cells → cs' ≡ filledCells (take (24 * days - 0) (drop 0 st)) cs
+pub states-are : (runs measured : List ℕ) (days : ℕ) (cells st conc flow cs cs' : List ℕ) → days ≤ 92 → length cells ≡ 2_208 → length conc ≡ 2_208 → length flow ≡ 2_208
+    → st ≡ over (stateAt runs measured) (min (24 * days) (length cells)) cells
+    → cs' ≡ filledCells (take (hoursInBoth (take (24 * days - 0) (drop 0 st)) conc flow) (take (24 * days - 0) (drop 0 st))) cs
     → cs' ≡ filledCells (periodStates runs measured days) cs
-states-are runs measured days cells st cs cs' l e s f = f ∙ ap (λ (t : List ℕ). filledCells t cs) (states-part runs measured days cells st l e s)
+states-are runs measured days cells st conc flow cs cs' l e c f s q =
+    let n = table-length (stateAt runs measured) (24 * days) in
+    q ∙ ap (λ (t : List ℕ). filledCells (take (hoursInBoth t conc flow) t) cs) (states-part runs measured days cells st l e s)
+    ∙ filled-both (periodStates runs measured days) conc flow cs (omega (arith, n, c)) (omega (arith, n, f)) (omega (arith, n))
 
 -- the parts of the cells that are weighed are those of the period
 pub parts-weigh : (conc flow : List ℕ) (days : ℕ) → products (take (24 * days - 0) (drop 0 conc)) (take (24 * days - 0) (drop 0 flow)) ≡ periodWeight days conc flow

@@ -68,9 +68,7 @@ fn fill_line(runs: &[u32; 92], measured: &[u32; 92], days: u8, conc: &mut [u32],
     let mut states = [0u8; 2208];
     hours::hour_states(runs, measured, days, &mut states);
     let n = 24 * (days as usize);
-    let line = &states[0..n];
-    fills::fill_gaps(line, conc);
-    fills::fill_gaps(line, flow);
+    fills::fill_gaps(&states[0..n], conc, flow);
 }
 
 // Method 1: both quantities filled, and the grams. A line that lacks no hour has nothing to fill.

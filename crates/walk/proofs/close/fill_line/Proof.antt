@@ -2,17 +2,20 @@
 use borrow.Author.Needs.{needs}
 use mathlib.Core.Path.{refl}
 use lib.ListN.{replicate}
+use denote.Ref.{now}
 use Rattle.walk.proofs.Closed.{states-are}
 use Rattle.walk.proofs.close.fill_line.Statement.{statement}
 use Rattle.walk.proofs.close.fill_line.Tie as tie
 
 returns : tie.Need-returns
 returns c =
-    let second = c .before .before in
-    let first = second .before .before .before .before in
-    let states = first .before .before .before .before .before in
-    let p = states .before .before .before .before .before .before .pre in
-    (states-are _ _ _ (replicate 2_208 0) _ _ _ (p .0) refl (states .hour-states .ensures) (first .fill-gaps .ensures), states-are _ _ _ (replicate 2_208 0) _ _ _ (p .0) refl (states .hour-states .ensures) (second .fill-gaps2 .ensures))
+    let fills = c .before .before .before .before in
+    let states = fills .before .before .before .before .before .before in
+    let start = states .before .before .before .before .before .before in
+    let p = start .pre in
+    let conc = now (start .args .conc) in
+    let flow = now (start .args .flow) in
+    (states-are _ _ _ (replicate 2_208 0) _ conc flow conc _ (p .0) refl (p .1) (p .2) (states .hour-states .ensures) (fills .fill-gaps .ensures .0), states-are _ _ _ (replicate 2_208 0) _ conc flow flow _ (p .0) refl (p .1) (p .2) (states .hour-states .ensures) (fills .fill-gaps .ensures .1))
 
 pub fill-line-spec : {M : Type 1} → statement M
 fill-line-spec =
@@ -24,7 +27,6 @@ fill-line-spec =
     (λ c. search needs)
     (λ c. search needs)
     (λ c. search needs)
-    (λ c κs. search needs)
     (λ c κs. search needs)
     (λ c. search needs)
     (λ c. search needs)
