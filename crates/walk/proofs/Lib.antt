@@ -12,3 +12,4 @@ pub mod Ending
 pub mod Takes
 pub mod Going
 pub mod Promises
+pub mod Only

@@ -1,0 +1,2 @@
+-- No second answer meets the promise of a public call.
+pub mod Only

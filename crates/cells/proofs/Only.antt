@@ -1,0 +1,13 @@
+-- No second list of cells meets the promise of a public call. Assumes nothing.
+use mathlib.Core.Path.{_≡_, _∙_, sym}
+use mathlib.Core.List.{List}
+use Prim.Native.Nat.{ℕ, min}
+use lib.ListN.{length, getD}
+use Rattle.law.specs.Words.{table, over}
+
+pub clear : (cells a b : List ℕ) → a ≡ table (λ h. 0) (length cells) → b ≡ table (λ h. 0) (length cells) → a ≡ b
+clear cells a b p q = p ∙ sym q
+
+pub put-figures : (figures cells a b : List ℕ) → a ≡ over (λ k. getD figures k 0) (min (length figures) (length cells)) cells
+    → b ≡ over (λ k. getD figures k 0) (min (length figures) (length cells)) cells → a ≡ b
+put-figures figures cells a b p q = p ∙ sym q
