@@ -36,7 +36,8 @@ part-walk-end-2 : tie.Need-part-walk-end-2
 part-walk-end-2 c = search needs
 
 walk-requires : tie.Need-walk-requires
-walk-requires c κs = let g = c .before .before .before .before .before .before .before .before in
+walk-requires c κs =
+    let g = c .before .before .before .before .before .before .before .before in
     let e = g .gather .ensures in
     (search needs, search needs, search needs, ap (λ (k : ℕ). take k (g .gather .last .1 .1 .1 .0)) (sub-zero (g .gather .result)) ∙ e .1, ap (λ (k : ℕ). take k (g .gather .last .1 .1 .1 .1 .0)) (sub-zero (g .gather .result)) ∙ e .2)
 

@@ -39,7 +39,8 @@ same-length-2 c = search needs
 
 returns : tie.Need-returns
 unfolding hoursInBoth
-returns c = let f = c .before .before .before .before in
+returns c =
+    let f = c .before .before .before .before in
     let n = f .before .before .before .before in
     let a = n .before .before .before .before .before .before .args in
     let s = now (a .states) in

@@ -46,7 +46,8 @@ same-length : tie.Need-same-length
 same-length c = search needs
 
 returns : tie.Need-returns
-returns c = let f = c .before .before in
+returns c =
+    let f = c .before .before in
     let v = f .before .before .before .before in
     let a = v .before .before .before .before .args in
     let x = now (a .values) in

@@ -28,7 +28,8 @@ loop-less : tie.Need-loop-less Inv-loop μ-loop
 loop-less c = search needs
 
 loop-again : tie.Need-loop-again Inv-loop μ-loop
-loop-again c = let l = c .before .before .before .loop in
+loop-again c =
+    let l = c .before .before .before .loop in
     let here = c .before .before .loop-test .taken in
     (search needs, search needs, gathered-empty _ _ _ _ _ (l .i) here (l .inv .2) (c .if1 .taken), gathered-empty _ _ _ _ _ (l .i) here (l .inv .3) (c .if1 .taken))
 
@@ -66,7 +67,8 @@ loop-less-2 : tie.Need-loop-less-2 Inv-loop μ-loop
 loop-less-2 c = search needs
 
 loop-again-2 : tie.Need-loop-again-2 Inv-loop μ-loop
-loop-again-2 c = let v = c .before .before in
+loop-again-2 c =
+    let v = c .before .before in
     let l = v .before .before .before .loop in
     let here = v .before .before .loop-test .taken in
     (search needs, search needs, gathered-valid _ _ _ _ _ (l .i) here (l .inv .2) (v .if1 .left) (omega arith), gathered-valid _ _ _ _ _ (l .i) here (l .inv .3) (v .if1 .left) (omega arith))
@@ -78,7 +80,8 @@ same-length-2 : tie.Need-same-length-2 Inv-loop μ-loop
 same-length-2 c = search needs
 
 returns : tie.Need-returns Inv-loop μ-loop
-returns c = let l = c .before .loop in
+returns c =
+    let l = c .before .loop in
     let end = c .loop-test .left in
     (search needs, gathered-done _ _ _ _ _ (l .i) end (l .inv .2), gathered-done _ _ _ _ _ (l .i) end (l .inv .3))
 

@@ -31,7 +31,8 @@ loop-less : tie.Need-loop-less Inv-loop μ-loop
 loop-less c = search needs
 
 loop-again : tie.Need-loop-again Inv-loop μ-loop
-loop-again c = let m = c .before .before .before .loop .inv in
+loop-again c =
+    let m = c .before .before .before .loop .inv in
     record { begins = search needs; ends = search needs; all = below-more _ _ (m .all) (λ p. c .if1 .left) }
 
 returns-2 : tie.Need-returns-2 Inv-loop μ-loop

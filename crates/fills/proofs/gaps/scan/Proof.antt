@@ -31,7 +31,8 @@ shared-slice-read-state : tie.Need-shared-slice-read-state Inv-loop μ-loop
 shared-slice-read-state c = search needs
 
 returns : tie.Need-returns Inv-loop μ-loop
-returns c = let l = c .before .before .before .loop in
+returns c =
+    let l = c .before .before .before .loop in
     let s = now (c .before .before .before .before .args .states) in
     record {
       counts = λ vs. omega (arith, l .inv .3 vs, run-valid s vs (l .next) (omega arith) (c .if1 .taken));
@@ -51,7 +52,8 @@ loop-less : tie.Need-loop-less Inv-loop μ-loop
 loop-less c = search needs
 
 loop-again : tie.Need-loop-again Inv-loop μ-loop
-loop-again c = let l = c .before .before .before .before .loop in
+loop-again c =
+    let l = c .before .before .before .before .loop in
     let s = now (c .before .before .before .before .before .args .states) in
     let q = c .before .if1 .left in
     let passes = below-more _ _ (l .inv .4) (λ p. q) in
@@ -61,7 +63,8 @@ loop-again c = let l = c .before .before .before .before .loop in
     (c .if2 .came)
 
 returns-2 : tie.Need-returns-2 Inv-loop μ-loop
-returns-2 c = let l = c .before .loop in
+returns-2 c =
+    let l = c .before .loop in
     let s = now (c .before .before .args .states) in
     record {
       counts = λ vs. omega (arith, l .inv .3 vs, run-none s vs (l .next) (omega arith));

@@ -16,7 +16,8 @@ abbrev μ-loop : tie.MeasureT-loop
 μ-loop states concentrations₀ flows₀ cs ls empty₀ i₀ concentrations flows empty i = length states - i
 
 loop-holds : tie.Need-loop-holds Inv-loop μ-loop
-loop-holds c = let p = c .before .before .before .before .before .pre in
+loop-holds c =
+    let p = c .before .before .before .before .before .pre in
     (search needs, stand-start _ _ _ (p .1) (p .3), stand-start _ _ _ (p .2) (p .4))
 
 shared-slice-read-s : tie.Need-shared-slice-read-s Inv-loop μ-loop
@@ -32,7 +33,8 @@ loop-less : tie.Need-loop-less Inv-loop μ-loop
 loop-less c = omega (arith, c .run-end .ensures .begins, c .run-end .ensures .ends)
 
 loop-again : tie.Need-loop-again Inv-loop μ-loop
-loop-again c = let m = c .run-end .ensures in
+loop-again c =
+    let m = c .run-end .ensures in
     let h = c .before .before .before in
     let l = h .before .loop in
     let end = c .run-end .result in
@@ -56,14 +58,16 @@ sub-empty : tie.Need-sub-empty Inv-loop μ-loop
 sub-empty c = search needs
 
 loop-less-2 : tie.Need-loop-less-2 Inv-loop μ-loop
-loop-less-2 c = let g = c .before .before .before .before .before .before .before .before in
+loop-less-2 c =
+    let g = c .before .before .before .before .before .before .before .before in
     let h = g .before .before .before .before in
     let l = h .before .loop in
     let m = gap-moves _ (l .i) _ (g .scan .result .next) (h .loop-test .taken) (g .before .if2 .taken) (g .scan .ensures) in
     omega (arith, g .scan .ensures .ends)
 
 loop-again-2 : tie.Need-loop-again-2 Inv-loop μ-loop
-loop-again-2 c = let f = c .before .before in
+loop-again-2 c =
+    let f = c .before .before in
     let v = f .before .before .before .before in
     let g = v .before .before in
     let h = g .before .before .before .before in
@@ -83,7 +87,8 @@ loop-less-3 : tie.Need-loop-less-3 Inv-loop μ-loop
 loop-less-3 c = search needs
 
 loop-again-3 : tie.Need-loop-again-3 Inv-loop μ-loop
-loop-again-3 c = let h = c .before .before .before in
+loop-again-3 c =
+    let h = c .before .before .before in
     let l = h .before .loop in
     let b : l .i + 1 - (l .empty + 1) ≡ l .i - l .empty = omega arith in
     (omega arith, stand-stopped _ _ _ _ _ (l .i) (h .loop-test .taken) (l .inv .1) (c .before .if1 .left) (c .if2 .left) _ b, stand-stopped _ _ _ _ _ (l .i) (h .loop-test .taken) (l .inv .2) (c .before .if1 .left) (c .if2 .left) _ b)
@@ -95,7 +100,8 @@ same-length-2 : tie.Need-same-length-2 Inv-loop μ-loop
 same-length-2 c = search needs
 
 returns : tie.Need-returns Inv-loop μ-loop
-returns c = let l = c .before .loop in
+returns c =
+    let l = c .before .loop in
     let few = c .before .before .before .before .before .before .before .pre .0 in
     (stand-end _ _ _ _ _ (l .i) few (c .loop-test .left) (l .inv .1), stand-end _ _ _ _ _ (l .i) few (c .loop-test .left) (l .inv .2))
 

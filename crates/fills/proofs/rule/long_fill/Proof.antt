@@ -51,7 +51,8 @@ largest-of-requires-2 c κs = search needs
 
 returns : tie.Need-returns
 unfolding long window same
-returns c = let n = c .before .before in
+returns c =
+    let n = c .before .before in
     let a = n .before .before .before .args in
     let v = now (a .valid) in
     let fits = n .before .before .before .pre in
@@ -63,7 +64,8 @@ returns c = let n = c .before .before in
 
 returns-2 : tie.Need-returns-2
 unfolding long window same
-returns-2 c = let n = c .before .before in
+returns-2 c =
+    let n = c .before .before in
     let a = n .before .before .before .args in
     let v = now (a .valid) in
     let none : 0 ≡ a .b = omega arith in

@@ -14,7 +14,8 @@ use Rattle.fills.proofs.rule.short_fill.Tie as tie
 
 returns : tie.Need-returns
 unfolding short same
-returns c = let a = c .before .before .before .args in
+returns c =
+    let a = c .before .before .before .args in
     let v = now (a .valid) in
     sym (ap (λ (k : ℕ). short meanUp same (reverse (take k v)) (drop k v)) (c .before .if1 .taken) ∙ ap (short meanUp same (reverse (take 0 v))) (none-of v (c .if2 .taken)))
 
@@ -23,7 +24,8 @@ shared-slice-read-result c = search needs
 
 returns-2 : tie.Need-returns-2
 unfolding short same
-returns-2 c = let a = c .before .before .before .before .args in
+returns-2 c =
+    let a = c .before .before .before .before .args in
     let v = now (a .valid) in
     sym (ap (λ (k : ℕ). short meanUp same (reverse (take k v)) (drop k v)) (c .before .before .if1 .taken) ∙ ap (short meanUp same (reverse (take 0 v))) (drop-cons v 0 0 (omega arith)))
 
@@ -38,7 +40,8 @@ shared-slice-read-last c = search needs
 
 returns-3 : tie.Need-returns-3
 unfolding short same
-returns-3 c = let a = c .before .before .before .before .args in
+returns-3 c =
+    let a = c .before .before .before .before .args in
     let v = now (a .valid) in
     sym (ap₂ (short meanUp same) (last-before (a .b) v (omega arith) (omega arith)) (drop-of-length-le v (let l : length v ≤ a .b = omega arith in l)))
 
@@ -53,7 +56,8 @@ mean-up-requires c κs = search needs
 
 returns-4 : tie.Need-returns-4
 unfolding short same
-returns-4 c = let a = c .before .before .before .before .before .before .args in
+returns-4 c =
+    let a = c .before .before .before .before .before .before .args in
     let v = now (a .valid) in
     c .mean-up .ensures ∙ sym (ap₂ (short meanUp same) (last-before (a .b) v (omega arith) (omega arith)) (drop-cons v (a .b) 0 (omega arith)))
 
