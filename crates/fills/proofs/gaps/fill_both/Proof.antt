@@ -2,7 +2,6 @@
 use mathlib.Core.Path.{_∙_, ap}
 use Prim.Native.Nat.{ℕ}
 use native.Mathlib.Nat.{sub-zero}
-use native.Mathlib.Omega.{arith}
 use lib.ListN.{take}
 use borrow.Author.Needs.{needs}
 use Rattle.fills.proofs.gaps.fill_both.Statement.{statement}
@@ -15,7 +14,9 @@ slice-aggregate-gather-2 : tie.Need-slice-aggregate-gather-2
 slice-aggregate-gather-2 c = search needs
 
 gather-requires : tie.Need-gather-requires
-gather-requires c κs = search needs
+gather-requires c κs =
+    let p = c .before .before .before .before .before .before .before .pre in
+    (p .1, p .2, p .0, p .0)
 
 sub-walk : tie.Need-sub-walk
 sub-walk c = search needs
@@ -39,7 +40,8 @@ walk-requires : tie.Need-walk-requires
 walk-requires c κs =
     let g = c .before .before .before .before .before .before .before .before in
     let e = g .gather .ensures in
-    (search needs, search needs, search needs, ap (λ (k : ℕ). take k (g .gather .last .1 .1 .1 .0)) (sub-zero (g .gather .result)) ∙ e .1, ap (λ (k : ℕ). take k (g .gather .last .1 .1 .1 .1 .0)) (sub-zero (g .gather .result)) ∙ e .2)
+    let p = g .before .before .before .before .before .before .before .before .pre in
+    (p .0, p .1, p .2, ap (λ (k : ℕ). take k (g .gather .last .1 .1 .1 .0)) (sub-zero (g .gather .result)) ∙ e .1, ap (λ (k : ℕ). take k (g .gather .last .1 .1 .1 .1 .0)) (sub-zero (g .gather .result)) ∙ e .2)
 
 same-length : tie.Need-same-length
 same-length c = search needs
@@ -48,7 +50,7 @@ same-length-2 : tie.Need-same-length-2
 same-length-2 c = search needs
 
 returns : tie.Need-returns
-returns c = search needs
+returns c = c .before .before .before .before .walk .ensures
 
 pub fill-both-spec : {M : Type 1} → statement M
 fill-both-spec =
