@@ -11,7 +11,7 @@ use borrow.Author.Tests.{eqb-true, eqb-false}
 use Rattle.law.specs.Words.{pick}
 use Rattle.law.proofs.Tests.{pick-eq, pick-not-eq}
 use Rattle.law.proofs.Tables.{table-length, table-at}
-use Rattle.rules.specs.Slots.{Slot, valid, missing, stopped, run, valids}
+use Rattle.rules.specs.Slots.{valid, missing, stopped, run, valids}
 use Rattle.fills.specs.Gaps.{slotAt, hoursIn, hoursInBoth, slotsIn}
 use Rattle.fills.specs.Parts.{row}
 use Rattle.fills.proofs.Neighbours.{At, Empty, from, run-from, run-end, valids-from, valids-end, alike-step}

@@ -2,7 +2,7 @@
 use mathlib.Core.Path.{_≡_, refl, _∙_, sym, ap, ap₂, subst}
 use mathlib.Core.Bool.{Bool, true, false}
 use mathlib.Core.Logic.{⊎-elim}
-use mathlib.Core.List.{List, [], _∷_, _++_, reverse, reverse-append}
+use mathlib.Core.List.{List, [], _∷_, reverse, reverse-append}
 use Prim.Native.Nat.{ℕ, zero, suc, _+_, _-_, _<_, _≤_}
 use native.Mathlib.Nat.{eq-or-lt-of-le}
 use native.Mathlib.Numerals.{add-one}
@@ -15,9 +15,9 @@ use Rattle.law.specs.Words.{pick, table, over}
 use Rattle.law.proofs.Tests.{pick-not-eq}
 use Rattle.law.proofs.Over.{over-none, over-skip, over-back, over-part, part-back, length-over}
 use Rattle.law.proofs.Tables.{table-length}
-use Rattle.rules.specs.Slots.{Slot, valid, missing, stopped, run, valids}
+use Rattle.rules.specs.Slots.{Slot, valid, stopped, run, valids}
 use Rattle.rules.specs.Fill.{fill, meanUp, same}
-use Rattle.fills.specs.Gaps.{slotAt, hoursIn, slotsIn, fillAt, cellAt, filledCells}
+use Rattle.fills.specs.Gaps.{slotAt, slotsIn, fillAt, cellAt, filledCells}
 use Rattle.fills.specs.Parts.{row, Measured, Scanned, spot, patched}
 use Rattle.fills.proofs.Neighbours.{before, from, Empty, run-before, valids-before, valids-from, none-before, alike, fill-alike}
 use Rattle.fills.proofs.States.{hours-all, in-row, at-valid, at-missing, at-stopped, at-empty}

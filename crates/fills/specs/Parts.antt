@@ -5,7 +5,7 @@ use Prim.Native.Nat.{ℕ, _-_, _<_, _≤_}
 use lib.ListN.{length, getD, take, drop}
 use lib.Dec.{eqb}
 use Rattle.law.specs.Words.{pick, table, over}
-use Rattle.rules.specs.Slots.{Slot, run, valids}
+use Rattle.rules.specs.Slots.{Slot, run}
 use Rattle.fills.specs.Gaps.{slotAt}
 
 -- every hour that has a state, in a row

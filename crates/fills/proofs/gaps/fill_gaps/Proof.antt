@@ -1,6 +1,5 @@
 -- `gaps::fill_gaps` meets its contract. Assumes nothing.
 use mathlib.Core.Path.{_≡_, _∙_, ap}
-use mathlib.Core.List.{List}
 use Prim.Native.Nat.{ℕ, _-_, min}
 use native.Mathlib.Nat.{sub-zero}
 use lib.ListN.{length, take}

@@ -1,5 +1,4 @@
 -- `gaps::gather` meets its contract: what it holds is held in each quantity. Assumes nothing.
-use mathlib.Core.Path.{refl}
 use Prim.Native.Nat.{_-_, _≤_}
 use native.Mathlib.Omega.{arith}
 use lib.ListN.{length}

@@ -1,8 +1,7 @@
 -- `gaps::run_end` meets its contract. Assumes nothing.
-use mathlib.Core.Path.{_≡_}
-use Prim.Native.Nat.{ℕ, _-_, _<_, _≤_}
+use Prim.Native.Nat.{_-_}
 use native.Mathlib.Omega.{arith}
-use lib.ListN.{length, getD}
+use lib.ListN.{length}
 use borrow.Author.Count.{below-more}
 use Rattle.fills.specs.Parts.{Measured}
 use borrow.Author.Needs.{needs}

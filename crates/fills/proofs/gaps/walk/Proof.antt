@@ -1,6 +1,6 @@
 -- `gaps::walk` meets its contract: what it holds is held in each quantity. Assumes nothing.
 use mathlib.Core.Path.{_≡_}
-use Prim.Native.Nat.{_+_, _-_, _<_, _≤_}
+use Prim.Native.Nat.{_+_, _-_, _≤_}
 use native.Mathlib.Omega.{arith}
 use lib.ListN.{length}
 use Rattle.fills.proofs.Walk.{Stand, stand-start, stand-measured, stand-stopped, stand-gap, stand-end, gap-moves}

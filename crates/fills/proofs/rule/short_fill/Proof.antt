@@ -1,6 +1,6 @@
 -- `rule::short_fill` meets its contract. Assumes nothing.
-use mathlib.Core.Path.{_≡_, _∙_, sym, ap, ap₂}
-use mathlib.Core.List.{List, reverse}
+use mathlib.Core.Path.{_∙_, sym, ap, ap₂}
+use mathlib.Core.List.{reverse}
 use Prim.Native.Nat.{ℕ, _≤_}
 use native.Mathlib.Omega.{arith}
 use lib.ListN.{length, take, drop, drop-of-length-le}
