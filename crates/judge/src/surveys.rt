@@ -1,95 +1,43 @@
 // A survey judged: 2, by its kind; then 3, 4, 5.
-use super::FINE;
+use super::refuse_unless;
 use rules::Fault;
 use rules::Survey;
 use rules::View;
+ghost use mathlib.Core.Bool.{_&&_};
 ghost use mathlib.Core.Path.{_≡_};
-ghost use Rattle.rules.specs.Judge.{first, surveysLeft, placeEnforcement, placePlant, judgeStopped, judgeSurvey};
+ghost use lib.Dec.{leb, eqb};
+ghost use Rattle.rules.specs.Judge.{first, surveysLeft, placeEnforcement, placePlant, judgeSurvey};
 
-// "At most 120 surveys of both kinds together."
-fn surveys_left(v: View) -> bool
-    ensures { λ r. ⌜ r ≡ surveysLeft v ⌝ }
+// Outside a line, before the last day, after fuel, hours not rising, one too many: "at most 120 surveys of both kinds together".
+fn in_place(v: View, floor: u32, hour: u16) -> bool
+    ensures { λ r. ⌜ r ≡ (v .inside && eqb (v .days) (v .head .days) && eqb (v .batches) 0 && leb floor hour && surveysLeft v) ⌝ }
 {
-    (v.enforcement.count as u64) + (v.plant.count as u64) < 120
+    let phase = v.inside & (v.days == v.head.days as u32) & (v.batches == 0);
+    let left = (v.enforcement.count as u64) + (v.plant.count as u64) < 120;
+    phase & (hour as u32 >= floor) & left
 }
 
-// Outside a line, before the last day, after a plant survey or fuel, hours not rising, one too many.
-fn place_enforcement(place: usize, v: View, s: Survey) -> Fault
-    ensures { λ f. ⌜ f ≡ placeEnforcement place v s ⌝ }
-{
-    if !v.inside {
-        return Fault { number: 2, place };
-    }
-    if v.days != v.head.days as u32 {
-        return Fault { number: 2, place };
-    }
-    if v.plant.count != 0 {
-        return Fault { number: 2, place };
-    }
-    if v.batches != 0 {
-        return Fault { number: 2, place };
-    }
-    if (s.hour as u32) < v.enforcement.floor {
-        return Fault { number: 2, place };
-    }
-    if !surveys_left(v) {
-        return Fault { number: 2, place };
-    }
-    FINE
-}
-
-// Outside a line, before the last day, after fuel, hours not rising, one too many.
-fn place_plant(place: usize, v: View, s: Survey) -> Fault
-    ensures { λ f. ⌜ f ≡ placePlant place v s ⌝ }
-{
-    if !v.inside {
-        return Fault { number: 2, place };
-    }
-    if v.days != v.head.days as u32 {
-        return Fault { number: 2, place };
-    }
-    if v.batches != 0 {
-        return Fault { number: 2, place };
-    }
-    if (s.hour as u32) < v.plant.floor {
-        return Fault { number: 2, place };
-    }
-    if !surveys_left(v) {
-        return Fault { number: 2, place };
-    }
-    FINE
-}
-
-// "Survey in a stopped hour."
-fn judge_stopped(place: usize, runs: &[u32], hour: u16) -> Fault
-    ensures { λ f. ⌜ f ≡ judgeStopped place (now (runs .entry)) hour ⌝ }
-{
-    if !hours::runs_at(runs, hour) {
-        return Fault { number: 5, place };
-    }
-    FINE
-}
-
-// "Survey hour past the period", then its readings, then its hour.
+// "Survey hour past the period", then its readings, then its hour: "survey in a stopped hour".
 fn judge_survey(place: usize, v: View, runs: &[u32], s: Survey) -> Fault
     ensures { λ f. ⌜ f ≡ judgeSurvey place v (now (runs .entry)) s ⌝ }
 {
-    if s.hour as u32 >= 24 * (v.head.days as u32) {
-        return Fault { number: 3, place };
-    }
     let pair = s.pair;
     record::first_of(
-        record::judge_pair(place, pair),
-        judge_stopped(place, runs, s.hour),
+        refuse_unless(3, place, (s.hour as u32) < 24 * (v.head.days as u32)),
+        record::first_of(
+            record::judge_pair(place, pair),
+            refuse_unless(5, place, hours::runs_at(runs, s.hour)),
+        ),
     )
 }
 
-// Kind 3.
+// Kind 3: no plant survey before it.
 pub fn judge_enforcement(place: usize, v: View, runs: &[u32], s: Survey) -> Fault
     ensures { λ f. ⌜ f ≡ first (placeEnforcement place v s) (judgeSurvey place v (now (runs .entry)) s) ⌝ }
 {
+    let placed = (v.plant.count == 0) & in_place(v, v.enforcement.floor, s.hour);
     record::first_of(
-        place_enforcement(place, v, s),
+        refuse_unless(2, place, placed),
         judge_survey(place, v, runs, s),
     )
 }
@@ -98,5 +46,8 @@ pub fn judge_enforcement(place: usize, v: View, runs: &[u32], s: Survey) -> Faul
 pub fn judge_plant(place: usize, v: View, runs: &[u32], s: Survey) -> Fault
     ensures { λ f. ⌜ f ≡ first (placePlant place v s) (judgeSurvey place v (now (runs .entry)) s) ⌝ }
 {
-    record::first_of(place_plant(place, v, s), judge_survey(place, v, runs, s))
+    record::first_of(
+        refuse_unless(2, place, in_place(v, v.plant.floor, s.hour)),
+        judge_survey(place, v, runs, s),
+    )
 }

@@ -1,11 +1,16 @@
--- `judge::ends::judge_end` meets its contract, by those of its two parts. Assumes nothing.
+-- `judge::ends::judge_end` meets its contract: its tests are the rule's, taken together. Assumes nothing.
+use mathlib.Core.Path.{_∙_}
+use Rattle.rules.specs.Judge.{placeEnd}
+use Rattle.judge.proofs.Tests.{first-parts, need-both}
 use borrow.Author.Needs.{needs}
-use Rattle.judge.proofs.Tests.{first-parts}
 use Rattle.judge.proofs.ends.judge_end.Statement.{statement}
 use Rattle.judge.proofs.ends.judge_end.Tie as tie
 
-place-end-requires : tie.Need-place-end-requires
-place-end-requires c κs = search needs
+cast-placed : tie.Need-cast-placed
+cast-placed c = search needs
+
+refuse-unless-requires : tie.Need-refuse-unless-requires
+refuse-unless-requires c κs = search needs
 
 judge-fuel-requires : tie.Need-judge-fuel-requires
 judge-fuel-requires c κs = search needs
@@ -14,9 +19,11 @@ first-of-requires : tie.Need-first-of-requires
 first-of-requires c κs = search needs
 
 returns : tie.Need-returns
+unfolding placeEnd
 returns c =
-    first-parts _ _ _ _ _ (c .first-of .ensures) (c .before .before .place-end .ensures) (c .before .judge-fuel .ensures)
+    first-parts _ _ _ _ _ (c .first-of .ensures) (c .before .before .refuse-unless .ensures ∙ need-both _ _ _ _) (c .before .judge-fuel .ensures)
 
 pub judge-end-spec : {M : Type 1} → statement M
 judge-end-spec =
-    tie.close (tie.spec place-end-requires judge-fuel-requires first-of-requires returns)
+    tie.close
+    (tie.spec cast-placed refuse-unless-requires judge-fuel-requires first-of-requires returns)

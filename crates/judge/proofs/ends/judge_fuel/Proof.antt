@@ -1,37 +1,34 @@
 -- `judge::ends::judge_fuel` meets its contract: each return is where the rule leads by the same tests. Assumes nothing.
-use Prim.Native.Nat.{ℕ}
-use mathlib.Core.Path.{_≡_, sym}
+use Prim.Native.Nat.{ℕ, _≤_, _<_}
+use mathlib.Core.Path.{_≡_, refl, ap, _∙_}
 use native.Mathlib.Omega.{arith}
-use lib.Dec.{ltb}
-use Rattle.law.specs.Words.{need}
-use Rattle.law.proofs.Tests.{need-lt, need-not-lt}
+use lib.Dec.{leb}
+use Rattle.law.specs.Words.{pick}
 use Rattle.rules.specs.declared.Fault.{Fault}
-use Rattle.rules.specs.Judge.{refuse, fine, judgeFuel}
-use Rattle.judge.proofs.Tests.{tested}
+use Rattle.law.proofs.Tests.{pick-le, pick-not-le}
+use Rattle.rules.specs.Judge.{fine, judgeEntry, judgeFuel}
+use Rattle.judge.proofs.Tests.{first-parts, first-need, some-of}
 use borrow.Author.Needs.{needs}
 use Rattle.judge.proofs.ends.judge_fuel.Statement.{statement}
 use Rattle.judge.proofs.ends.judge_fuel.Tie as tie
 
-is-surveyed-requires : tie.Need-is-surveyed-requires
-is-surveyed-requires c κs = search needs
-
 method-by-requires : tie.Need-method-by-requires
 method-by-requires c κs = search needs
 
-module _ (n x : Fault) (batches : ℕ) where
-  no-batch : batches ≡ 0 → n ≡ need n (ltb 0 batches) x
-  no-batch h = need-not-lt n x 0 batches (omega arith)
+-- by the method as the rule has it
+module _ (m k : ℕ) (e : m ≡ k) where
+  low : (x y : Fault) → m ≤ 2 → x ≡ pick (leb k 2) x y
+  low x y l = pick-le x y x k 2 (omega arith) refl
 
-  some-batch : (r : Fault) → (batches ≡ 0 → ⊥) → r ≡ x → r ≡ need n (ltb 0 batches) x
-  some-batch r h e = need-lt n x r 0 batches (omega arith) e
+  high : (x y r : Fault) → 2 < m → r ≡ y → r ≡ pick (leb k 2) x y
+  high x y r l q = pick-not-le x y r k 2 (omega arith) q
 
 returns : tie.Need-returns
 unfolding judgeFuel fine
-returns c = rw (← c .before .method-by .ensures _ (sym (c .before .before .is-surveyed .ensures))) (search tested depth 9)
+returns c = low _ _ (c .before .method-by .ensures _ (some-of (c .before .before .before .before .before .args .v))) _ _ (c .if1 .taken)
 
-returns-2 : tie.Need-returns-2
-unfolding judgeFuel refuse
-returns-2 c = rw (← c .before .before .before .method-by .ensures _ (sym (c .before .before .before .before .is-surveyed .ensures))) (search (tested, no-batch) depth 9)
+refuse-unless-requires : tie.Need-refuse-unless-requires
+refuse-unless-requires c κs = search needs
 
 coefficients-requires : tie.Need-coefficients-requires
 coefficients-requires c κs = search needs
@@ -39,18 +36,24 @@ coefficients-requires c κs = search needs
 judge-entry-requires : tie.Need-judge-entry-requires
 judge-entry-requires c κs = search needs
 
-returns-3 : tie.Need-returns-3
+first-of-requires : tie.Need-first-of-requires
+first-of-requires c κs = search needs
+
+returns-2 : tie.Need-returns-2
 unfolding judgeFuel
-returns-3 c = rw (← c .before .before .before .before .before .method-by .ensures _ (sym (c .before .before .before .before .before .before .is-surveyed .ensures)), ← c .before .coefficients .ensures) (search (tested, some-batch) depth 9)
+returns-2 c =
+    high _ _ (c .before .before .before .before .before .before .method-by .ensures _ (some-of (c .before .before .before .before .before .before .before .before .before .before .args .v))) _ _ _ (c .before .before .before .before .before .if1 .left)
+    (first-parts _ _ _ _ _ (c .first-of .ensures) (c .before .before .before .refuse-unless .ensures) (c .before .judge-entry .ensures ∙ ap (judgeEntry _) (c .before .before .coefficients .ensures))
+    ∙ first-need _ _ _ _ refl)
 
 pub judge-fuel-spec : {M : Type 1} → statement M
 judge-fuel-spec =
     tie.close
     (tie.spec
-    is-surveyed-requires
     method-by-requires
     returns
-    returns-2
+    refuse-unless-requires
     coefficients-requires
     judge-entry-requires
-    returns-3)
+    first-of-requires
+    returns-2)

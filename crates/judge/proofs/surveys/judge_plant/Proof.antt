@@ -1,11 +1,16 @@
--- `judge::surveys::judge_plant` meets its contract, by those of its two parts. Assumes nothing.
+-- `judge::surveys::judge_plant` meets its contract: its tests are the rule's, taken together. Assumes nothing.
+use mathlib.Core.Path.{_∙_}
+use Rattle.rules.specs.Judge.{placePlant}
+use Rattle.judge.proofs.Tests.{first-parts, need-by, need-both}
 use borrow.Author.Needs.{needs}
-use Rattle.judge.proofs.Tests.{first-parts}
 use Rattle.judge.proofs.surveys.judge_plant.Statement.{statement}
 use Rattle.judge.proofs.surveys.judge_plant.Tie as tie
 
-place-plant-requires : tie.Need-place-plant-requires
-place-plant-requires c κs = search needs
+in-place-requires : tie.Need-in-place-requires
+in-place-requires c κs = search needs
+
+refuse-unless-requires : tie.Need-refuse-unless-requires
+refuse-unless-requires c κs = search needs
 
 judge-survey-requires : tie.Need-judge-survey-requires
 judge-survey-requires c κs = search needs
@@ -14,9 +19,16 @@ first-of-requires : tie.Need-first-of-requires
 first-of-requires c κs = search needs
 
 returns : tie.Need-returns
+unfolding placePlant
 returns c =
-    first-parts _ _ _ _ _ (c .first-of .ensures) (c .before .before .place-plant .ensures) (c .before .judge-survey .ensures)
+    first-parts _ _ _ _ _ (c .first-of .ensures) (c .before .before .refuse-unless .ensures ∙ need-by _ _ _ _ (c .before .before .before .in-place .ensures) ∙ need-both _ _ _ _ ∙ need-both _ _ _ _ ∙ need-both _ _ _ _ ∙ need-both _ _ _ _) (c .before .judge-survey .ensures)
 
 pub judge-plant-spec : {M : Type 1} → statement M
 judge-plant-spec =
-    tie.close (tie.spec place-plant-requires judge-survey-requires first-of-requires returns)
+    tie.close
+    (tie.spec
+    in-place-requires
+    refuse-unless-requires
+    judge-survey-requires
+    first-of-requires
+    returns)
