@@ -1,5 +1,6 @@
 -- The figures: no product is too long, what the code keeps of the batches gives the grams of the rules, and the grams are at most half a gram off.
 -- Assumes nothing.
+use mathlib.Core.Bool.{true, _&&_}
 use mathlib.Core.Path.{_≡_, refl, sym, ap, subst}
 use mathlib.Core.List.{List}
 use Prim.Native.Nat.{ℕ, _+_, _-_, _*_, _<_, _≤_}
@@ -7,9 +8,10 @@ use native.Mathlib.Nat.{mul-le-mul, mul-le-mul-left, mul-add, mul-one}
 use native.Mathlib.Omega.{arith}
 use native.Mathlib.Decide.{decLe}
 use lib.Dec.{T, leb, leb→le, lit<}
+use borrow.Author.Tests.{leb-true}
 use lib.Ieee.Fits.{and-l, and-r}
 use Rattle.law.specs.Words.{halvesUp, apart}
-use Rattle.law.proofs.Tests.{need-le}
+use Rattle.law.proofs.Tests.{need-le, both-true}
 use Rattle.law.proofs.Halves.{halves-within}
 use Rattle.rules.specs.declared.Head.{Head}
 use Rattle.rules.specs.declared.Batch.{Batch}
@@ -64,10 +66,21 @@ module _ (kg : ℕ) (few : kg ≤ 10_000_000_000) where
   pub dust-fits : (a b ash : ℕ) → a ≤ 936 → b ≤ 1_113 → ash ≤ 100_000_000_000_000 → a * ash + 100 * b * kg ≤ 94_713_000_000_000_000
   dust-fits a b ash l m n = omega (arith, a-fits a ash l n, b-fits b m)
 
+-- ---- the document's range, by the code's tests
+pub in-range-tests : (kg sulphur ash : ℕ) → (leb kg 10_000_000_000 && leb sulphur 2_000 && leb ash 100_000_000_000_000) ≡ true → (kg ≤ 10_000_000_000) × (sulphur ≤ 2_000) × (ash ≤ 100_000_000_000_000)
+in-range-tests kg sulphur ash e =
+    let outer = both-true (leb kg 10_000_000_000 && leb sulphur 2_000) (leb ash 100_000_000_000_000) e in
+    let inner = both-true (leb kg 10_000_000_000) (leb sulphur 2_000) (outer .0) in
+    (leb-true _ _ (inner .0), leb-true _ _ (inner .1), leb-true _ _ (outer .1))
+
+-- ---- the figure of an entry that the tables have
+pub by-entry : (h : Head) (kg sulphur ash : ℕ) (entry : Coefficients) (r : FuelFigure) → coefficientsOf h ≡ entry → r ≡ figureOf entry kg sulphur ash → r ≡ figureOf (coefficientsOf h) kg sulphur ash
+by-entry h kg sulphur ash entry r e f = rw e f
+
 -- ---- within the document's range the figure is that of the entry
 pub in-range : (h : Head) (kg sulphur ash : ℕ) (entry : Coefficients) (r : FuelFigure) → kg ≤ 10_000_000_000 → sulphur ≤ 2_000 → ash ≤ 100_000_000_000_000 → coefficientsOf h ≡ entry → r ≡ figureOf entry kg sulphur ash → r ≡ fuelFigure h kg sulphur ash
 unfolding fuelFigure
-in-range h kg sulphur ash entry r l m n e f = need-le _ _ _ _ _ l (need-le _ _ _ _ _ m (need-le _ _ _ _ _ n (rw e f)))
+in-range h kg sulphur ash entry r l m n e f = need-le _ _ _ _ _ l (need-le _ _ _ _ _ m (need-le _ _ _ _ _ n (by-entry h kg sulphur ash entry r e f)))
 
 -- ---- the figure of a line's batches is the grams of the rules
 pub figure-is : (entry : Coefficients) (batches : List Batch) → (entry ≡ Wanting → ⊥) → figureOf entry (fuel batches) (sulphurOf batches) (ashOf batches) ≡ Grams (fuelGrams entry batches)

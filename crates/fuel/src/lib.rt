@@ -3,7 +3,7 @@ ghost use mathlib.Core.Path.{_≡_};
 ghost use Prim.Native.Nat.{_<_, _≤_};
 ghost use Rattle.law.specs.Words.{halvesUp};
 ghost use Rattle.rules.specs.Tables.{balanceOf, oxidesOf, dustOf, coefficientsOf};
-ghost use Rattle.fuel.specs.Fuel.{fuelFigure};
+ghost use Rattle.fuel.specs.Fuel.{figureOf, fuelFigure};
 use rules::Coefficients;
 use rules::DustEntry;
 use rules::Entry;
@@ -75,19 +75,11 @@ fn halves_up(n: u64, d: u64) -> u64
     (2 * n + d) / (2 * d)
 }
 
-// The grams of a line from its kg, its largest sulphur and its sum of kg x ash: one rounding.
-pub fn fuel_figure(h: Head, kg: u64, sulphur: u16, ash: u64) -> FuelFigure
-    ensures { λ r. ⌜ r ≡ fuelFigure h kg sulphur ash ⌝ }
+// The figure of amounts within the document's range, by the entry that the tables have: one rounding.
+fn figure(h: Head, kg: u64, sulphur: u16, ash: u64) -> FuelFigure
+    requires { ⌜ (kg ≤ 10_000_000_000) × (sulphur ≤ 2_000) × (ash ≤ 100_000_000_000_000) ⌝ }
+    ensures { λ r. ⌜ r ≡ figureOf (coefficientsOf h) kg sulphur ash ⌝ }
 {
-    if kg > 10_000_000_000 {
-        return FuelFigure::OutOfRange;
-    }
-    if sulphur > 2_000 {
-        return FuelFigure::OutOfRange;
-    }
-    if ash > 100_000_000_000_000 {
-        return FuelFigure::OutOfRange;
-    }
     match coefficients(h) {
         Coefficients::Balance(q, k) => {
             let top = 2 * kg * (1_000 - q as u64) * (sulphur as u64) * (k as u64);
@@ -103,4 +95,15 @@ pub fn fuel_figure(h: Head, kg: u64, sulphur: u16, ash: u64) -> FuelFigure
         }
         Coefficients::NoEntry => FuelFigure::NoEntry,
     }
+}
+
+// The grams of a line from its kg, its largest sulphur and its sum of kg x ash.
+pub fn fuel_figure(h: Head, kg: u64, sulphur: u16, ash: u64) -> FuelFigure
+    ensures { λ r. ⌜ r ≡ fuelFigure h kg sulphur ash ⌝ }
+{
+    let fits = (kg <= 10_000_000_000) & (sulphur <= 2_000) & (ash <= 100_000_000_000_000);
+    if fits {
+        return figure(h, kg, sulphur, ash);
+    }
+    FuelFigure::OutOfRange
 }

@@ -1,7 +1,11 @@
 // The tables q, K and A.1. A lookup finds an entry, or there is none.
 ghost use mathlib.Core.Path.{_≡_};
-ghost use Rattle.rules.specs.Tables.{at, q, k, tableA1, classOf, isPulverised, isGrate, grateDust, dustEntry, oxidesEntry};
-ghost use Rattle.fuel.specs.Rows.{entries, rowOf};
+ghost use Prim.Native.Nat.{_≤_};
+ghost use lib.Dec.{eqb};
+ghost use Rattle.law.specs.Words.{pick};
+ghost use Rattle.rules.specs.declared.DustEntry.the-variants.{Both, Neither};
+ghost use Rattle.rules.specs.Tables.{at, q, k, class as row, tableA1, classOf, isPulverised, isGrate, grateDust, dustEntry, oxidesEntry};
+ghost use Rattle.fuel.specs.Rows.{entryOf, entries, rowOf};
 use rules::DustEntry;
 use rules::Entry;
 
@@ -26,57 +30,37 @@ struct SizeClass {
     oxides: [u32; 4],
 }
 
-// "Table A.1, in 0.01 kg/t".
-const A1: [SizeClass; 8] = [
+// a and b of dust, or a dash.
+fn dust_pair(a: u32, b: u32) -> DustEntry
+    ensures { λ r. ⌜ r ≡ pick (eqb a 0) Neither (Both a b) ⌝ }
+{
+    if a == 0 {
+        return DustEntry::Neither;
+    }
+    DustEntry::Both(a, b)
+}
+
+// A row as the document prints it, with 0 for a dash.
+fn class(
+    from: u16,
+    pa: u32,
+    pb: u32,
+    ba: u32,
+    bb: u32,
+    o1: u32,
+    o2: u32,
+    o3: u32,
+    o4: u32,
+) -> SizeClass
+    ensures { λ r. ⌜ rowOf r ≡ row from (pick (eqb pa 0) Neither (Both pa pb)) (pick (eqb ba 0) Neither (Both ba bb)) (entryOf o1) (entryOf o2) (entryOf o3) (entryOf o4) ⌝ }
+{
     SizeClass {
-        from: 750,
-        pulverised: DustEntry::Both(923, 876),
-        bed: DustEntry::Neither,
-        oxides: [0, 0, 609, 410],
-    },
-    SizeClass {
-        from: 450,
-        pulverised: DustEntry::Both(920, 933),
-        bed: DustEntry::Neither,
-        oxides: [795, 672, 607, 408],
-    },
-    SizeClass {
-        from: 250,
-        pulverised: DustEntry::Both(921, 1113),
-        bed: DustEntry::Both(631, 754),
-        oxides: [801, 665, 582, 407],
-    },
-    SizeClass {
-        from: 150,
-        pulverised: DustEntry::Both(933, 777),
-        bed: DustEntry::Both(624, 757),
-        oxides: [768, 661, 561, 394],
-    },
-    SizeClass {
-        from: 75,
-        pulverised: DustEntry::Both(931, 918),
-        bed: DustEntry::Both(631, 727),
-        oxides: [749, 658, 548, 386],
-    },
-    SizeClass {
-        from: 35,
-        pulverised: DustEntry::Both(936, 1044),
-        bed: DustEntry::Both(624, 724),
-        oxides: [690, 592, 413, 304],
-    },
-    SizeClass {
-        from: 20,
-        pulverised: DustEntry::Both(916, 45),
-        bed: DustEntry::Both(630, 779),
-        oxides: [647, 528, 392, 301],
-    },
-    SizeClass {
-        from: 9,
-        pulverised: DustEntry::Both(918, 756),
-        bed: DustEntry::Both(630, 897),
-        oxides: [582, 407, 308, 296],
-    },
-];
+        from,
+        pulverised: dust_pair(pa, pb),
+        bed: dust_pair(ba, bb),
+        oxides: [o1, o2, o3, o4],
+    }
+}
 
 // Place 1, 2, .. of a row, and none at 0 or past its end.
 fn at_place(place: u8, row: &[u32]) -> Entry
@@ -115,47 +99,57 @@ pub fn k_entry(furnace: u8) -> Entry
     at_place(furnace, &K)
 }
 
+// "Table A.1, in 0.01 kg/t": its upper rows.
+fn large_class(mw: u16) -> SizeClass
+    requires { ⌜ 150 ≤ mw ⌝ }
+    ensures { λ r. ⌜ rowOf r ≡ classOf mw tableA1 ⌝ }
+{
+    if mw >= 750 {
+        return class(750, 923, 876, 0, 0, 0, 0, 609, 410);
+    }
+    if mw >= 450 {
+        return class(450, 920, 933, 0, 0, 795, 672, 607, 408);
+    }
+    if mw >= 250 {
+        return class(250, 921, 1113, 631, 754, 801, 665, 582, 407);
+    }
+    class(150, 933, 777, 624, 757, 768, 661, 561, 394)
+}
+
 // The row of an MW: the first whose lower bound is reached, or a row of dashes.
 fn size_class(mw: u16) -> SizeClass
     ensures { λ r. ⌜ rowOf r ≡ classOf mw tableA1 ⌝ }
 {
-    let mut i = 0;
-    while i < 8 {
-        let class = A1[i];
-        if mw >= class.from {
-            return class;
-        }
-        i += 1;
+    if mw >= 150 {
+        return large_class(mw);
     }
-    SizeClass {
-        from: 0,
-        pulverised: DustEntry::Neither,
-        bed: DustEntry::Neither,
-        oxides: [0; 4],
+    if mw >= 75 {
+        return class(75, 931, 918, 631, 727, 749, 658, 548, 386);
     }
+    if mw >= 35 {
+        return class(35, 936, 1044, 624, 724, 690, 592, 413, 304);
+    }
+    if mw >= 20 {
+        return class(20, 916, 45, 630, 779, 647, 528, 392, 301);
+    }
+    if mw >= 9 {
+        return class(9, 918, 756, 630, 897, 582, 407, 308, 296);
+    }
+    class(0, 0, 0, 0, 0, 0, 0, 0, 0)
 }
 
 // "Pulverised" is furnaces 1 and 2.
 fn is_pulverised(furnace: u8) -> bool
     ensures { λ r. ⌜ r ≡ isPulverised furnace ⌝ }
 {
-    if furnace == 1 {
-        return true;
-    }
-    furnace == 2
+    (furnace == 1) | (furnace == 2)
 }
 
 // "Grate, 9-19 MW only."
 fn is_grate(furnace: u8, mw: u16) -> bool
     ensures { λ r. ⌜ r ≡ isGrate furnace mw ⌝ }
 {
-    if furnace != 4 {
-        return false;
-    }
-    if mw < 9 {
-        return false;
-    }
-    mw <= 19
+    (furnace == 4) & (mw >= 9) & (mw <= 19)
 }
 
 // a and b of a grate, by coal.
@@ -165,13 +159,10 @@ fn grate_dust(coal: u8) -> DustEntry
     if coal == 1 {
         return DustEntry::Both(185, 0);
     }
-    if coal < 3 {
-        return DustEntry::Neither;
+    if (coal >= 3) & (coal <= 5) {
+        return DustEntry::Both(160, 0);
     }
-    if coal > 5 {
-        return DustEntry::Neither;
-    }
-    DustEntry::Both(160, 0)
+    DustEntry::Neither
 }
 
 // a and b of dust, by furnace, coal and MW.

@@ -6,7 +6,7 @@ use mathlib.Core.Path.{_≡_, refl, sym, ap, subst, _∙_}
 use native.Mathlib.Omega.{arith}
 use lib.Dec.{leb, ltb, eqb}
 use borrow.Author.Tests.{leb-true, ltb-true, eqb-true, eqb-false}
-use Rattle.law.proofs.Tests.{need-eq, need-not-eq, pick-not-le}
+use Rattle.law.proofs.Tests.{need-eq, need-not-eq, pick-not-le, both-true}
 use Rattle.rules.specs.declared.Head.{Head}
 use Rattle.rules.specs.declared.Survey.{Survey}
 use Rattle.rules.specs.declared.Batch.{Batch}
@@ -42,10 +42,6 @@ NoDay OfEnd = Unit
 
 two-truths : true ≡ false → ⊥
 two-truths e = let z : _≡_ {A = ℕ} 0 1 = cc in omega arith
-
-and-true : (s t : Bool) → (s && t) ≡ true → (s ≡ true) × (t ≡ true)
-and-true true t e = (refl, e)
-and-true false t e = absurd (two-truths (sym e))
 
 no-day : (r : Record) → isDay r ≡ false → NoDay r
 unfolding isDay NoDay
@@ -140,7 +136,7 @@ module _ (place : ℕ) (v : View) (runs : List ℕ) where
   pub judge-readings : (bytes : List ℕ) (r : Record) (f g : Fault) (day : Bool) → r ≡ flat (recordIn bytes) → f ≡ judgeFlat place v runs r → day ≡ isDay r
       → (eqb (f .number) 0 && day) ≡ true → g ≡ judgeHours place (dayOf bytes) → g ≡ judge place v runs (recordIn bytes)
   judge-readings bytes r f g day p e i t h =
-      let b = and-true (eqb (f .number) 0) day t in
+      let b = both-true (eqb (f .number) 0) day t in
       let d = of-day r (sym i ∙ b .1) in
       judge-passed bytes (d .0) r f g p (d .1) e (eqb-true _ _ (b .0)) h
 

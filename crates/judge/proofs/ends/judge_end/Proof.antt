@@ -1,7 +1,8 @@
 -- `judge::ends::judge_end` meets its contract: its tests are the rule's, taken together. Assumes nothing.
 use mathlib.Core.Path.{_∙_}
+use Rattle.law.proofs.Tests.{need-both}
 use Rattle.rules.specs.Judge.{placeEnd}
-use Rattle.judge.proofs.Tests.{first-parts, need-both}
+use Rattle.judge.proofs.Tests.{first-parts}
 use borrow.Author.Needs.{needs}
 use Rattle.judge.proofs.ends.judge_end.Statement.{statement}
 use Rattle.judge.proofs.ends.judge_end.Tie as tie

@@ -1,7 +1,8 @@
 -- `judge::surveys::judge_plant` meets its contract: its tests are the rule's, taken together. Assumes nothing.
 use mathlib.Core.Path.{_∙_}
+use Rattle.law.proofs.Tests.{need-both}
 use Rattle.rules.specs.Judge.{placePlant}
-use Rattle.judge.proofs.Tests.{first-parts, need-by, need-both}
+use Rattle.judge.proofs.Tests.{first-parts, need-by}
 use borrow.Author.Needs.{needs}
 use Rattle.judge.proofs.surveys.judge_plant.Statement.{statement}
 use Rattle.judge.proofs.surveys.judge_plant.Tie as tie
