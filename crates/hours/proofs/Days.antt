@@ -7,26 +7,13 @@ use Prim.Native.Nat.{ℕ, zero, suc, _+_, _-_, _*_, _/_, _%_, _<_, _≤_}
 use native.Mathlib.Nat.{mod-lt, zero-lt-suc, mul-zero, mul-suc, mul-one, mul-add, mul-le-mul-left, le-of-suc-le-suc, eq-or-lt-of-le, not-suc-le-zero}
 use native.Mathlib.Omega.{arith}
 use lib.ListN.{length, getD, length-append, List·getD-append, List·getD-eq-default}
-use lib.Seq.{getD-at, getD-append-add}
+use lib.Seq.{getD-append-add}
 use Rattle.law.specs.Words.{table}
+use Rattle.law.proofs.Tables.{table-length, table-at}
 use Rattle.rules.specs.declared.Pair.{Pair}
 use Rattle.rules.specs.Records.{Day}
 use Rattle.rules.specs.Slots.{Slot, stopped}
 use Rattle.rules.specs.Hours.{slotOf, slotsOf, runMasks, measuredMasks}
-
-module _ {A : Type 0} (f : ℕ → A) where
-  length-table : (n : ℕ) → length (table f n) ≡ n
-  unfolding table
-  length-table zero = refl
-  length-table (suc n) = length-append (table f n) (f n ∷ []) ∙ omega (arith, length-table n)
-
-  getD-table : (n h : ℕ) (d : A) → h < n → getD (table f n) h d ≡ f h
-  unfolding table
-  getD-table zero h d l = absurd (not-suc-le-zero l)
-  getD-table (suc n) h d l =
-      ⊎-elim (λ e. ap (λ (k : ℕ). getD (table f n ++ (f n ∷ [])) k d) e ∙ getD-at (table f n) (f n) [] d n (length-table n) ∙ ap f (sym e))
-      (λ m. List·getD-append (table f n) (f n ∷ []) d h (let j : h < length (table f n) = omega (arith, length-table n) in j) ∙ getD-table n h d m)
-      (eq-or-lt-of-le (le-of-suc-le-suc l))
 
 -- a list to which each day adds n elements at its end: how long it is, and what stands in it at place h of day k
 module _ {A : Type 0} (g : Day → ℕ → A) (n : ℕ) where
@@ -38,7 +25,7 @@ module _ {A : Type 0} (g : Day → ℕ → A) (n : ℕ) where
   unfolding rows
   length-rows [] = sym (mul-zero n)
   length-rows (d ∷ ds) =
-      length-append (rows ds) (table (g d) n) ∙ ap₂ (λ (x y : ℕ). x + y) (length-rows ds) (length-table (g d) n) ∙ sym (mul-suc n (length ds))
+      length-append (rows ds) (table (g d) n) ∙ ap₂ (λ (x y : ℕ). x + y) (length-rows ds) (table-length (g d) n) ∙ sym (mul-suc n (length ds))
 
   row-at : (ds : List Day) (k h : ℕ) (e : Day) (a : A) → k < length ds → h < n → getD (rows ds) (n * k + h) a ≡ g (getD ds (length ds - 1 - k) e) h
   unfolding rows
@@ -48,7 +35,7 @@ module _ {A : Type 0} (g : Day → ℕ → A) (n : ℕ) where
       (λ q.
       let w : n * k + h ≡ length (rows ds) + h = ap (λ (x : ℕ). x + h) (ap (λ (x : ℕ). n * x) q ∙ sym (length-rows ds)) in
       let z : 0 ≡ suc (length ds) - 1 - k = omega arith in
-      ap (λ (x : ℕ). getD (rows ds ++ table (g d) n) x a) w ∙ getD-append-add (rows ds) (table (g d) n) h a ∙ getD-table (g d) n h a m
+      ap (λ (x : ℕ). getD (rows ds ++ table (g d) n) x a) w ∙ getD-append-add (rows ds) (table (g d) n) h a ∙ table-at (g d) n h a m
       ∙ ap (λ (x : ℕ). g (getD (d ∷ ds) x e) h) z)
       (λ q.
       let w : n * (k + 1) ≤ n * length ds = mul-le-mul-left n (let j : k + 1 ≤ length ds = omega arith in j) in
