@@ -4,7 +4,7 @@ use mathlib.Core.Bool.{Bool, true, false, true≢false}
 use mathlib.Core.List.{List, [], _++_}
 use Prim.Native.Nat.{ℕ, _+_, _-_, _*_, _<_, _≤_, min}
 use native.Mathlib.Omega.{arith}
-use lib.ListN.{length, take, drop, getD, length-append, length-drop, length-replicate}
+use lib.ListN.{length, take, drop, getD, length-append, length-drop}
 use lib.Seq.{take-at, drop-at, length-take-le}
 use lib.Dec.{leb}
 use borrow.Author.Tests.{le-leb, lt-leb, leb-true}
@@ -14,17 +14,13 @@ use Rattle.rules.specs.declared.Answer.{Answer}
 use Rattle.rules.specs.Lines.{Line}
 use Rattle.rules.specs.Judge.{refuse}
 use Rattle.rules.specs.Row.{rowsOf, cells, concentrationCells, flowCells}
-use Rattle.rules.specs.Walk.{Accepted, outcome}
 use Rattle.rules.specs.Account.{refusal, acceptance, rowsFit, workFits, answerFrom, answerOf, rowsFrom, rowsAfter, cellsFrom, workAfter, Promise}
-use Rattle.answers.specs.Answers.{Stated, Denied}
+use Rattle.answers.specs.Answers.{Stated}
 use Rattle.answers.proofs.Answers.{stated, denied}
 use Rattle.answers.proofs.Rows.{rows-long}
 use Rattle.walk.specs.Books.{noRows}
 use Rattle.walk.proofs.Going.{zeros}
-
-no-rows-long : length noRows ≡ 336
-unfolding noRows
-no-rows-long = length-replicate {A = ℕ} 336 0
+use Rattle.walk.proofs.Promises.{no-rows-long}
 
 -- the first 2,208 cells cleared hold no line's hours
 pub cleared : (xs ys : List ℕ) → 2_208 ≤ length xs → ys ≡ table (λ h. 0) (length (take 2_208 xs)) → ys ++ drop 2_208 xs ≡ cells [] ++ drop 2_208 xs

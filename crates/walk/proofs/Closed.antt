@@ -1,12 +1,12 @@
 -- What the calls at the end of a line leave, put together. Assumes nothing.
 use mathlib.Core.Path.{_≡_, refl, _∙_, sym, ap, ap₂, subst}
-use mathlib.Core.List.{List, [], _∷_, _++_}
-use Prim.Native.Nat.{ℕ, _+_, _-_, _*_, _/_, _^_, _≤_, _<_, min}
+use mathlib.Core.List.{List}
+use Prim.Native.Nat.{ℕ, _+_, _-_, _*_, _/_, _≤_, _<_, min}
 use native.Mathlib.Nat.{mul-div-mul-right, mul-le-mul, mul-le-mul-right}
 use native.Mathlib.Omega.{arith}
 use lib.ListN.{length, take, drop, getD, length-take}
 use lib.Seq.{take-at, getD-take}
-use lib.Dec.{ltb, eqb}
+use lib.Dec.{eqb}
 use Rattle.law.specs.Words.{need, table, over, halvesUp, largest}
 use Rattle.law.proofs.Tests.{need-case}
 use Rattle.law.proofs.Halves.{halves-within}

@@ -2,14 +2,13 @@
 use mathlib.Core.Path.{_≡_, refl, _∙_, sym, ap, ap₂, subst}
 use mathlib.Core.Bool.{Bool, true, false}
 use mathlib.Core.List.{List, [], _∷_, _++_, map, append-assoc}
-use Prim.Native.Nat.{ℕ, suc, _+_, _-_, _*_, _^_, _<_, _≤_}
+use Prim.Native.Nat.{ℕ, suc, _+_, _-_, _*_, _<_, _≤_}
 use native.Mathlib.Omega.{arith}
-use native.Mathlib.Nat.{lt-of-le-of-lt}
 use native.Mathlib.Decide.{decLt}
-use lib.ListN.{length, take, drop, getD, length-append, length-map, length-take, length-drop, List·getD-eq-default}
+use lib.ListN.{length, take, drop, getD, length-map, List·getD-eq-default}
 use lib.Seq.{take-at, drop-at, drop-drop}
-use lib.Dec.{eqb, lit<}
-use borrow.Author.Tests.{eqb-true, eqb-false, eq-eqb, ne-eqb}
+use lib.Dec.{eqb}
+use borrow.Author.Tests.{eqb-true, eqb-false}
 use Rattle.law.specs.Words.{need, pick, sumOf, table, over, halvesUp}
 use Rattle.law.proofs.Tables.{table-length, table-at}
 use Rattle.rules.specs.declared.Head.{Head}
@@ -19,8 +18,8 @@ use Rattle.rules.specs.Hours.{running, lacking, runMasks, measuredMasks, firstM
 use Rattle.rules.specs.Lines.{Line, surveyed, surveys, fuel}
 use Rattle.rules.specs.Method.{methodOf, method}
 use Rattle.rules.specs.Tables.{coefficientsOf}
-use Rattle.rules.specs.Fill.{Values, zeroes, cs, ls, filled, unfilled}
-use Rattle.rules.specs.Grams.{hourly, amount, surveyValues, automatic, manual, fuelGrams, sulphurOf, grams}
+use Rattle.rules.specs.Fill.{Values, cs, ls, filled, unfilled}
+use Rattle.rules.specs.Grams.{hourly, amount, automatic, manual, sulphurOf, grams}
 use Rattle.rules.specs.Row.{rowOf, rowsOf, totalOf, held, cells, concentrationCells, flowCells}
 use Rattle.rules.specs.Walk.{Between, Inside, viewOf}
 use Rattle.rules.proofs.Method.{grams-automatic, grams-manual, grams-fuel}
@@ -30,19 +29,18 @@ use Rattle.fills.specs.Weights.{products}
 use Rattle.fills.proofs.Products.{products-amounts}
 use Rattle.fuel.specs.Fuel.{ashOf, fuelFigure}
 use Rattle.fuel.proofs.Batches.{InRange}
-use Rattle.fuel.proofs.Figures.{line-figure, grams-fit}
+use Rattle.fuel.proofs.Figures.{line-figure}
 use Rattle.walk.specs.declared.books.Sums.{Sums}
 use Rattle.walk.specs.declared.take.Taken.{Taken}
 use Rattle.walk.specs.Views.{afterEnd}
-use Rattle.walk.specs.Books.{noRows, patched, valuesAt, Bounded, LineBooks, Kept}
-use Rattle.walk.specs.Closing.{gramsIn, periodStates, periodWeight, Limits, LineGrams, withGrams}
+use Rattle.walk.specs.Books.{noRows, patched, valuesAt, Bounded, Kept}
+use Rattle.walk.specs.Closing.{gramsIn, periodStates, periodWeight, Limits, LineGrams}
 use Rattle.walk.specs.Taking.{viewMethod, rowIn, EndTaken}
 use Rattle.walk.proofs.Views.{survey-count, view-end}
 use Rattle.walk.proofs.Filled.{unfilled-concentrations, unfilled-flows, filled-concentrations, filled-flows, held-length, held-cells}
 use Rattle.walk.proofs.Cleared.{cells-past}
-use Rattle.walk.proofs.Closed.{period-products, share-most}
+use Rattle.walk.proofs.Closed.{share-most}
 use Rattle.walk.proofs.Standing.{patched-length}
-use Rattle.walk.proofs.Steps.{surveyed-most}
 
 -- the method of the view is the line's
 pub method-is : (x : Line) (done : List Line) → viewMethod (viewOf (Inside x done)) ≡ method x

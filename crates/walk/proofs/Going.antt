@@ -1,12 +1,12 @@
 -- The loop of the walk: the code's state stands for some lines, from which the rules' walk goes on to the file's outcome. Assumes nothing.
 use mathlib.Core.Path.{_≡_, refl, _∙_, sym, ap, ap₂, subst}
 use mathlib.Core.Bool.{Bool, true, false, true≢false}
-use mathlib.Core.List.{List, [], _∷_}
-use Prim.Native.Nat.{ℕ, zero, suc, _+_, _-_, _*_, _<_, _≤_}
+use mathlib.Core.List.{List, []}
+use Prim.Native.Nat.{ℕ, zero, suc, _+_, _-_, _<_, _≤_}
 use native.Mathlib.Omega.{arith}
 use lib.ListN.{length, take, drop, replicate, getD, length-drop, length-replicate, getD-replicate}
 use lib.Seq.{take-all}
-use lib.Dec.{eqb, ltb, lit<}
+use lib.Dec.{eqb, ltb}
 use borrow.Author.Tests.{lt-ltb, le-ltb, eq-eqb, ne-eqb, eqb-true, eqb-false}
 use Rattle.law.specs.Words.{need, pick, sumOf, table}
 use Rattle.law.proofs.Tables.{table-is, table-length}
@@ -14,10 +14,9 @@ use Rattle.rules.specs.declared.Fault.{Fault}
 use Rattle.rules.specs.declared.View.{View}
 use Rattle.rules.specs.Records.{Bad, IsHead, IsDay, IsEnforcement, IsPlant, IsBatch, IsEnd, Placed, dayOf, recordIn, sizeOf, upTo, recordsFrom, recordsOf}
 use Rattle.rules.specs.Records as rules
-use Rattle.rules.specs.Lines.{Line}
 use Rattle.rules.specs.Judge.{refuse, fine, first, judge, judgeHours}
 use Rattle.rules.specs.Row.{rowsOf, totalOf, cells, concentrationCells, flowCells}
-use Rattle.rules.specs.Walk.{Stand, Between, Inside, noHead, viewOf, runsOf, taken, ended, faultOf, walk, Outcome, Refused, Accepted, outcome}
+use Rattle.rules.specs.Walk.{Stand, Between, Inside, viewOf, runsOf, taken, ended, faultOf, walk, Refused, outcome}
 use Rattle.record.specs.declared.Record.{Record}
 use Rattle.record.specs.declared.Record.the-variants.{Bad as NoKind, OfHead, OfDay, OfEnforcement, OfPlant, OfBatch, OfEnd}
 use Rattle.record.specs.Flat.{flat, flatSize}
@@ -250,7 +249,6 @@ module _ (file : List ℕ) (p : Progress) (runs measured flags conc flow out : L
           accepted = at-end ∙ ap (ended file) (sym q);
           count = l ∙ ap (λ (x : View). x .lines) (k .view);
           most = k .lines;
-          outLong = k .outLong;
           rows = k .rows;
           total1 = a ∙ k .total1;
           total2 = b ∙ k .total2;

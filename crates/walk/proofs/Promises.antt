@@ -1,25 +1,22 @@
 -- The ways out of the account call, from what its walk promises. Assumes nothing.
-use mathlib.Core.Path.{_≡_, refl, _∙_, sym, ap, ap₂}
-use mathlib.Core.Bool.{Bool, true, false}
+use mathlib.Core.Path.{_≡_, _∙_, ap}
+use mathlib.Core.Bool.{true, false}
 use mathlib.Core.List.{List, [], _++_}
 use Prim.Native.Nat.{ℕ, _+_, _-_, _*_, _<_, _≤_}
 use native.Mathlib.Omega.{arith}
 use lib.ListN.{length, drop, length-replicate}
 use lib.Dec.{leb}
 use borrow.Author.Tests.{le-leb, lt-leb}
-use Rattle.law.specs.Words.{need, table, over}
+use Rattle.law.specs.Words.{need, over}
 use Rattle.law.proofs.Over.{over-all}
-use Rattle.rules.specs.declared.Fault.{Fault}
 use Rattle.rules.specs.declared.Answer.{Answer}
-use Rattle.rules.specs.Lines.{Line}
-use Rattle.rules.specs.Judge.{refuse, fine, first}
-use Rattle.rules.specs.Row.{rowsOf, cells, concentrationCells, flowCells}
-use Rattle.rules.specs.Walk.{Refused, Accepted, outcome}
-use Rattle.rules.specs.Account.{refusal, acceptance, rowsFit, workFits, answerFrom, answerOf, rowsFrom, rowsAfter, cellsFrom, workAfter, Promise}
+use Rattle.rules.specs.Judge.{refuse, first}
+use Rattle.rules.specs.Row.{cells}
+use Rattle.rules.specs.Account.{acceptance, rowsFit, workFits, answerFrom, answerOf, rowsFrom, rowsAfter, cellsFrom, workAfter, Promise}
 use Rattle.walk.specs.declared.turns.Tally.{Tally}
 use Rattle.walk.specs.declared.Walked.{Walked}
 use Rattle.walk.specs.Books.{noRows}
-use Rattle.walk.specs.Walking.{stopped, Ended, WalkPromise, Settled}
+use Rattle.walk.specs.Walking.{stopped, WalkPromise, Settled}
 use Rattle.walk.proofs.Going.{zeros}
 
 -- ---- 9: the work slices
@@ -58,7 +55,7 @@ pub cleared : (xs zs : List ℕ) → length xs ≡ 2_208 → zs ≡ over (λ h. 
 unfolding cells
 cleared xs zs l e = e ∙ over-all (λ h. 0) 2_208 xs (omega (arith, l)) ∙ zeros 2_208
 
-no-rows-long : length noRows ≡ 336
+pub no-rows-long : length noRows ≡ 336
 unfolding noRows
 no-rows-long = length-replicate {A = ℕ} 336 0
 

@@ -81,7 +81,6 @@ pub record Ended (file out conc flow : List ℕ) (w : Tally) : Type 0 where
   pub accepted : outcome file ≡ Accepted lines
   pub count : w .lines ≡ length lines
   pub most : length lines ≤ 48
-  pub outLong : length out ≡ 336
   pub rows : out ≡ rowsOf lines ++ drop (7 * length lines) noRows
   pub total1 : w .total1 ≡ totalOf 1 lines
   pub total2 : w .total2 ≡ totalOf 2 lines
