@@ -23,7 +23,7 @@ use Rattle.rules.specs.Grams.{sulphurOf, fuelTop, fuelBottom, fuelGrams}
 use Rattle.fuel.specs.declared.FuelFigure.{FuelFigure}
 use Rattle.fuel.specs.declared.FuelFigure.the-variants.{Grams, NoEntry}
 use Rattle.fuel.specs.Fuel.{ashOf, topOf, figureOf, fuelFigure}
-use Rattle.fuel.proofs.Bounds.{small, coefficients-small}
+use Rattle.tables.proofs.Bounds.{small, coefficients-small}
 use Rattle.fuel.proofs.Batches.{InRange, top-is}
 
 -- ---- the bounds of an entry, as numbers

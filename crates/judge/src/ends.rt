@@ -50,7 +50,7 @@ fn judge_fuel(place: usize, v: View) -> Fault
     }
     record::first_of(
         refuse_unless(6, place, v.batches > 0),
-        judge_entry(place, fuel::coefficients(head)),
+        judge_entry(place, tables::coefficients(head)),
     )
 }
 

@@ -1,0 +1,2 @@
+-- What the code of the tables holds.
+pub mod Rows

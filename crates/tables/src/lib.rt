@@ -1,0 +1,58 @@
+// What the tables q, K and A.1 have for a line.
+ghost use mathlib.Core.Path.{_≡_};
+ghost use Rattle.rules.specs.Tables.{balanceOf, oxidesOf, dustOf, coefficientsOf};
+use rules::Coefficients;
+use rules::DustEntry;
+use rules::Entry;
+use rules::Head;
+
+pub mod entries;
+
+// Formula 4 takes q and K.
+fn balance_of(q: Entry, k: Entry) -> Coefficients
+    ensures { λ r. ⌜ r ≡ balanceOf q k ⌝ }
+{
+    match q {
+        Entry::Found(q) => match k {
+            Entry::Found(k) => Coefficients::Balance(q, k),
+            Entry::Absent => Coefficients::NoEntry,
+        },
+        Entry::Absent => Coefficients::NoEntry,
+    }
+}
+
+// Formula 5 takes one coefficient for oxides.
+fn oxides_of(e: Entry) -> Coefficients
+    ensures { λ r. ⌜ r ≡ oxidesOf e ⌝ }
+{
+    match e {
+        Entry::Found(coefficient) => Coefficients::Oxides(coefficient),
+        Entry::Absent => Coefficients::NoEntry,
+    }
+}
+
+// Formula 5 takes a and b for dust.
+fn dust_of(e: DustEntry) -> Coefficients
+    ensures { λ r. ⌜ r ≡ dustOf e ⌝ }
+{
+    match e {
+        DustEntry::Both(a, b) => Coefficients::Dust(a, b),
+        DustEntry::Neither => Coefficients::NoEntry,
+    }
+}
+
+// What the tables have for a line that goes by fuel: "sulphur dioxide by mass balance (3), the others by coefficient (4)".
+pub fn coefficients(h: Head) -> Coefficients
+    ensures { λ r. ⌜ r ≡ coefficientsOf h ⌝ }
+{
+    if h.pollutant == 1 {
+        return balance_of(
+            entries::q_entry(h.furnace, h.coal),
+            entries::k_entry(h.furnace),
+        );
+    }
+    if h.pollutant == 2 {
+        return oxides_of(entries::oxides_entry(h.furnace, h.mark, h.mw));
+    }
+    dust_of(entries::dust_entry(h.furnace, h.coal, h.mw))
+}
