@@ -24,10 +24,11 @@ use Rattle.record.specs.declared.DayMasks.{DayMasks}
 use Rattle.record.specs.declared.Record.{Record}
 use Rattle.record.specs.declared.Record.the-variants.{Bad, OfHead, OfDay, OfEnforcement, OfPlant, OfBatch, OfEnd}
 use Rattle.record.specs.Flat.{masksOf, flat}
-use Rattle.record.proofs.Faults.{Stands, stands, first-first, first-refused, passed, both-passed}
-use Rattle.record.proofs.Day.{pair-stands}
-use Rattle.record.proofs.Laws.{PairAccepted, pair-accepted, day-in}
-use Rattle.judge.specs.Flat.{isDay, judgeFlat}
+use Rattle.faults.proofs.Laws.{Stands, stands, first-first, first-refused, passed, both-passed}
+use Rattle.day.proofs.Hours.{pair-stands}
+use Rattle.day.proofs.Laws.{PairAccepted, pair-accepted}
+use Rattle.record.proofs.Laws.{day-in}
+use Rattle.judge.specs.Flat.{judgeFlat}
 
 -- ---- a record as the code holds it
 -- no day
@@ -39,29 +40,6 @@ NoDay (OfEnforcement s) = Unit
 NoDay (OfPlant s) = Unit
 NoDay (OfBatch b) = Unit
 NoDay OfEnd = Unit
-
-two-truths : true ≡ false → ⊥
-two-truths e = let z : _≡_ {A = ℕ} 0 1 = cc in omega arith
-
-no-day : (r : Record) → isDay r ≡ false → NoDay r
-unfolding isDay NoDay
-no-day Bad e = tt
-no-day (OfHead h) e = tt
-no-day (OfDay d) e = two-truths e
-no-day (OfEnforcement s) e = tt
-no-day (OfPlant s) e = tt
-no-day (OfBatch b) e = tt
-no-day OfEnd e = tt
-
-of-day : (r : Record) → isDay r ≡ true → (d : DayMasks) × (r ≡ OfDay d)
-unfolding isDay
-of-day Bad e = absurd (two-truths (sym e))
-of-day (OfHead h) e = absurd (two-truths (sym e))
-of-day (OfDay d) e = (d, refl)
-of-day (OfEnforcement s) e = absurd (two-truths (sym e))
-of-day (OfPlant s) e = absurd (two-truths (sym e))
-of-day (OfBatch b) e = absurd (two-truths (sym e))
-of-day OfEnd e = absurd (two-truths (sym e))
 
 first-stops : (f g : Fault) → (f .number ≡ 0 → ⊥) → f ≡ first f g
 unfolding first
@@ -131,22 +109,6 @@ module _ (place : ℕ) (v : View) (runs : List ℕ) where
 
   pub judge-other : (x : rules.Record) (r : Record) (f : Fault) → r ≡ flat x → NoDay r → f ≡ judgeFlat place v runs r → f ≡ judge place v runs x
   judge-other x r f p n e = e ∙ ap (judgeFlat place v runs) p ∙ sym (judge-flat x (subst NoDay p n))
-
-  -- the same two by the tests of the code
-  pub judge-readings : (bytes : List ℕ) (r : Record) (f g : Fault) (day : Bool) → r ≡ flat (recordIn bytes) → f ≡ judgeFlat place v runs r → day ≡ isDay r
-      → (eqb (f .number) 0 && day) ≡ true → g ≡ judgeHours place (dayOf bytes) → g ≡ judge place v runs (recordIn bytes)
-  judge-readings bytes r f g day p e i t h =
-      let b = both-true (eqb (f .number) 0) day t in
-      let d = of-day r (sym i ∙ b .1) in
-      judge-passed bytes (d .0) r f g p (d .1) e (eqb-true _ _ (b .0)) h
-
-  pub judge-kept : (x : rules.Record) (r : Record) (f : Fault) (day : Bool) → r ≡ flat x → f ≡ judgeFlat place v runs r → day ≡ isDay r → (eqb (f .number) 0 && day) ≡ false
-      → f ≡ judge place v runs x
-  judge-kept x r f day p e i t = by (eqb (f .number) 0) refl t
-    where
-      by : (s : Bool) → eqb (f .number) 0 ≡ s → (s && day) ≡ false → f ≡ judge place v runs x
-      by true z k = judge-other x r f p (no-day r (sym i ∙ k)) e
-      by false z k = judge-refused x r f p e (eqb-false (f .number) 0 z)
 
   -- a day that is not refused: its number and masks, and its readings
   pub day-passed : (d : Day) → judge place v runs (IsDay d) ≡ fine → (judgeFlat place v runs (OfDay (masksOf d)) ≡ fine) × (judgeHours place d ≡ fine)

@@ -1,5 +1,5 @@
 // A fuel batch judged: 2, then 3.
-use super::refuse_unless;
+use faults::refuse_unless;
 use rules::Batch;
 use rules::Fault;
 use rules::View;
@@ -27,7 +27,7 @@ pub fn judge_batch(place: usize, v: View, b: Batch) -> Fault
 {
     let placed = v.inside & (v.days == v.head.days as u32) & (v.batches < 92);
     let fits = (b.kg >= 1) & (b.sulphur <= 2_000) & (b.ash <= 10_000) & fuel_fits(v.fuel, b.kg);
-    record::first_of(
+    faults::first_of(
         refuse_unless(2, place, placed),
         refuse_unless(3, place, fits),
     )

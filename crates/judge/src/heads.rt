@@ -1,5 +1,5 @@
 // A head judged: 2, then 3.
-use super::refuse_unless;
+use faults::refuse_unless;
 use rules::Fault;
 use rules::Head;
 use rules::View;
@@ -33,5 +33,5 @@ pub fn judge_head(place: usize, v: View, h: Head) -> Fault
     let placed = !v.inside & (key >= v.floor) & (v.lines < 48);
     let misplaced = refuse_unless(2, place, placed);
     let range = range_head(place, h);
-    record::first_of(misplaced, range)
+    faults::first_of(misplaced, range)
 }

@@ -1,5 +1,5 @@
 // A survey judged: 2, by its kind; then 3, 4, 5.
-use super::refuse_unless;
+use faults::refuse_unless;
 use rules::Fault;
 use rules::Survey;
 use rules::View;
@@ -22,10 +22,10 @@ fn judge_survey(place: usize, v: View, runs: &[u32], s: Survey) -> Fault
     ensures { λ f. ⌜ f ≡ judgeSurvey place v (now (runs .entry)) s ⌝ }
 {
     let pair = s.pair;
-    record::first_of(
+    faults::first_of(
         refuse_unless(3, place, (s.hour as u32) < 24 * (v.head.days as u32)),
-        record::first_of(
-            record::judge_pair(place, pair),
+        faults::first_of(
+            day::judge_pair(place, pair),
             refuse_unless(5, place, hours::runs_at(runs, s.hour)),
         ),
     )
@@ -36,7 +36,7 @@ pub fn judge_enforcement(place: usize, v: View, runs: &[u32], s: Survey) -> Faul
     ensures { λ f. ⌜ f ≡ first (placeEnforcement place v s) (judgeSurvey place v (now (runs .entry)) s) ⌝ }
 {
     let placed = (v.plant.count == 0) & in_place(v, v.enforcement.floor, s.hour);
-    record::first_of(
+    faults::first_of(
         refuse_unless(2, place, placed),
         judge_survey(place, v, runs, s),
     )
@@ -46,7 +46,7 @@ pub fn judge_enforcement(place: usize, v: View, runs: &[u32], s: Survey) -> Faul
 pub fn judge_plant(place: usize, v: View, runs: &[u32], s: Survey) -> Fault
     ensures { λ f. ⌜ f ≡ first (placePlant place v s) (judgeSurvey place v (now (runs .entry)) s) ⌝ }
 {
-    record::first_of(
+    faults::first_of(
         refuse_unless(2, place, in_place(v, v.plant.floor, s.hour)),
         judge_survey(place, v, runs, s),
     )

@@ -20,7 +20,7 @@ use Rattle.rules.specs.Walk.{Stand, Between, Inside, viewOf, runsOf, taken, end
 use Rattle.record.specs.declared.Record.{Record}
 use Rattle.record.specs.declared.Record.the-variants.{Bad as NoKind, OfHead, OfDay, OfEnforcement, OfPlant, OfBatch, OfEnd}
 use Rattle.record.specs.Flat.{flat, flatSize}
-use Rattle.record.proofs.Faults.{Stands}
+use Rattle.faults.proofs.Laws.{Stands}
 use Rattle.record.proofs.Laws.{size-flat, size-some, record-whole}
 use Rattle.judge.specs.Flat.{judgeFlat}
 use Rattle.judge.proofs.Laws.{NoDay, flat-stands, judge-refused, judge-passed, judge-other}

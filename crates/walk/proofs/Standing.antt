@@ -24,8 +24,9 @@ use Rattle.rules.specs.Fill.{Values, zeroes}
 use Rattle.rules.specs.Grams.{valuesOf}
 use Rattle.rules.specs.Judge.{fine, judgeHours}
 use Rattle.rules.specs.Walk.{Stand, Between, Inside, viewOf, begun, withDay, withEnforcement, withPlant, withBatch}
-use Rattle.record.specs.Flat.{masksOf, kept, concentrationAt, flowAt}
-use Rattle.record.proofs.Laws.{PairAccepted, day-accepted, concentration-blank, flow-blank, concentration-most, flow-most}
+use Rattle.record.specs.Flat.{masksOf}
+use Rattle.day.specs.Day.{kept, concentrationAt, flowAt}
+use Rattle.day.proofs.Laws.{PairAccepted, day-accepted, concentration-blank, flow-blank, concentration-most, flow-most}
 use Rattle.walk.specs.declared.books.Sums.{Sums}
 use Rattle.walk.specs.declared.take.Taken.{Taken}
 use Rattle.walk.specs.Views.{afterHead, afterDay, afterEnforcement, afterPlant, afterBatch, openedSums, withSurvey, withFuel}

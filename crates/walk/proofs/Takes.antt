@@ -22,14 +22,15 @@ use lib.Dec.{eqb}
 use Rattle.law.proofs.Tests.{need-eq, pick-case}
 use Rattle.rules.specs.declared.Fault.{Fault}
 use Rattle.rules.specs.Judge.{fine, first, judgeHour, judgeHours}
-use Rattle.record.proofs.Faults.{Stands, stands-fine, stands-pick}
-use Rattle.record.proofs.Day.{hour-stands}
+use Rattle.faults.proofs.Laws.{Stands, stands-fine, stands-pick}
+use Rattle.day.proofs.Hours.{hour-stands}
 use Rattle.rules.specs.Walk.{Stand, Between, Inside, viewOf, runsOf, taken, takenBetween, takenInside}
 use Rattle.record.specs.declared.DayMasks.{DayMasks}
 use Rattle.record.specs.declared.Record.{Record}
 use Rattle.record.specs.declared.Record.the-variants.{Bad, OfHead, OfDay, OfEnforcement, OfPlant, OfBatch, OfEnd}
 use Rattle.record.specs.Flat.{flat, masksOf}
-use Rattle.record.proofs.Laws.{record-case, day-in, PairAccepted}
+use Rattle.record.proofs.Laws.{record-case, day-in}
+use Rattle.day.proofs.Laws.{PairAccepted}
 use Rattle.judge.specs.Flat.{judgeFlat}
 use Rattle.judge.proofs.Laws.{SurveyOk, EndOk, head-ok, day-ok, enforcement-ok, plant-ok, batch-ok, end-ok, bad-refused}
 use Rattle.hours.proofs.Laws.{running-period, missing-period}

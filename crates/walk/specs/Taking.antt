@@ -15,7 +15,7 @@ use Rattle.rules.specs.Records.{dayOf}
 use Rattle.rules.specs.Method.{methodOf}
 use Rattle.rules.specs.Judge.{fine, judgeHours}
 use Rattle.record.specs.declared.DayMasks.{DayMasks}
-use Rattle.record.specs.Flat.{kept, concentrationAt, flowAt}
+use Rattle.day.specs.Day.{kept, concentrationAt, flowAt}
 use Rattle.walk.specs.declared.books.Sums.{Sums}
 use Rattle.walk.specs.declared.take.Taken.{Taken}
 use Rattle.walk.specs.Views.{afterHead, afterDay, afterEnforcement, afterPlant, afterBatch, afterEnd, openedSums, withSurvey, withFuel}

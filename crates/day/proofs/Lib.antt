@@ -1,0 +1,4 @@
+-- Laws of a day's readings, and what the proofs of the code lean on.
+pub mod Hours
+pub mod Laws
+pub mod Only

@@ -1,0 +1,64 @@
+-- Faults in a row: the first of them, and what it says that there is none. Assumes nothing.
+use Prim.Native.Nat.{ℕ}
+use mathlib.Core.Bool.{Bool, true, false}
+use mathlib.Core.Path.{_≡_, refl, sym, ap, _∙_}
+use native.Mathlib.Omega.{arith}
+use lib.Dec.{eqb}
+use Rattle.law.specs.Words.{need, pick}
+use Rattle.law.proofs.Tests.{need-false, need-case, pick-case}
+use Rattle.rules.specs.declared.Fault.{Fault}
+use Rattle.rules.specs.Judge.{refuse, fine, first}
+
+by-first : (f g k : Fault) (t : Bool) → eqb (f .number) 0 ≡ t → first (need f t g) k ≡ need f t (first g k)
+unfolding first need
+by-first f g k true h = refl
+by-first f g k false h = rw h
+
+pub first-first : (f g k : Fault) → first (first f g) k ≡ first f (first g k)
+unfolding first
+first-first f g k = by-first f g k (eqb (f .number) 0) refl
+
+pub first-fine : (f : Fault) → first fine f ≡ f
+unfolding first fine need
+first-fine f = refl
+
+pub first-refused : (number place : ℕ) (f : Fault) → eqb number 0 ≡ false → refuse number place ≡ first (refuse number place) f
+unfolding first refuse
+first-refused number place f e = need-false (refuse number place) (eqb number 0) f e
+
+-- a fault that refuses, or is fine: nothing fine after it changes it
+abbrev pub Stands : Fault → Type 0
+Stands f = first f fine ≡ f
+
+pub stands-fine : Stands fine
+stands-fine = first-fine fine
+
+pub stands-need : (number place : ℕ) (t : Bool) (f : Fault) → eqb number 0 ≡ false → Stands f → Stands (need (refuse number place) t f)
+stands-need number place t f e s =
+    need-case (λ (x : Fault). first x fine ≡ x) (refuse number place) t f (λ _. sym (first-refused number place fine e)) (λ _. s)
+
+pub stands-pick : (t : Bool) (f g : Fault) → Stands f → Stands g → Stands (pick t f g)
+stands-pick t f g p q = pick-case (λ (x : Fault). first x fine ≡ x) t f g (λ _. p) (λ _. q)
+
+pub stands-first : (f g : Fault) → Stands g → Stands (first f g)
+stands-first f g s = first-first f g fine ∙ ap (first f) s
+
+pub ruleset stands = (stands-fine, stands-need, stands-pick, stands-first)
+
+refuses : (t : Bool) → t ≡ false → t ≡ true → ⊥
+refuses t p q = let z : _≡_ {A = ℕ} 0 1 = cc in omega arith
+
+-- what passed every test passed each
+pub passed : (number place : ℕ) (t : Bool) (f : Fault) → eqb number 0 ≡ false → need (refuse number place) t f ≡ fine → (t ≡ true) × (f ≡ fine)
+unfolding need refuse fine
+passed number place true f e h = (refl, h)
+passed number place false f e h = absurd (refuses (eqb number 0) e (ap (λ (x : Fault). eqb (x .number) 0) h))
+
+passed-by : (f g : Fault) (t : Bool) → eqb (f .number) 0 ≡ t → need f t fine ≡ f → need f t g ≡ fine → (f ≡ fine) × (g ≡ fine)
+unfolding need fine
+passed-by f g true h s e = (sym s, e)
+passed-by f g false h s e = absurd (refuses (eqb (f .number) 0) h (ap (λ (x : Fault). eqb (x .number) 0) e))
+
+pub both-passed : (f g : Fault) → Stands f → first f g ≡ fine → (f ≡ fine) × (g ≡ fine)
+unfolding first
+both-passed f g s e = passed-by f g (eqb (f .number) 0) refl s e

@@ -1,0 +1,3 @@
+-- Laws of faults in a row.
+pub mod Laws
+pub mod Only

@@ -1,0 +1,3 @@
+-- Laws of a record in bytes, judged.
+pub mod Laws
+pub mod Only

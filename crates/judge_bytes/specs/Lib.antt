@@ -1,0 +1,2 @@
+-- A record in bytes, judged.
+pub mod Days

@@ -1,0 +1,2 @@
+-- What the method call leaves to be shown.
+pub mod Only
