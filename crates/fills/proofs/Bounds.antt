@@ -1,22 +1,22 @@
--- A fill passes no limit that the valid values keep, so no entry does, and a sum of products is at most so many times the product of the limits. That a
+-- No fill passes a limit that the valid values keep, so no entry does, and a sum of products is at most so many times the product of the limits. That a
 -- list keeps a limit M is said as `largest s ≤ M`. Assumes nothing.
 use mathlib.Core.Path.{_≡_, refl, _∙_, sym, ap, subst}
 use mathlib.Core.List.{List, [], _∷_, _++_, reverse, reverse-cons}
 use Prim.Native.Nat.{ℕ, zero, suc, _+_, _*_, _<_, _≤_, max}
-use native.Mathlib.Nat.{le-trans, mul-le-mul, suc-mul}
+use native.Mathlib.Nat.{mul-le-mul, suc-mul}
 use native.Mathlib.Omega.{arith}
 use lib.ListN.{length, getD, take, drop, take-append-drop, length-map}
-use lib.Dec.{eqb, leb}
+use lib.Dec.{eqb}
 use Rattle.law.specs.Words.{largest, sumOf}
 use Rattle.law.proofs.Tests.{pick-case}
-use Rattle.law.proofs.Halves.{mean-is}
 use Rattle.law.proofs.Tables.{table-at}
 use Rattle.rules.specs.Slots.{Slot, valid, missing, stopped, valids, entry, entries}
-use Rattle.rules.specs.Fill.{Values, zeroes, cs, ls, window, short, long, fill, meanUp, same, filled}
+use Rattle.rules.specs.Fill.{Values, zeroes, cs, ls, fill, meanUp, same, filled}
 use Rattle.rules.specs.Grams.{amount}
+use Rattle.gap.proofs.Largest.{largest-append}
+use Rattle.gap.proofs.Bounds.{fill-most}
 use Rattle.fills.specs.Gaps.{slotAt, hoursIn, slotsIn, fillAt, cellAt, filledCells}
 use Rattle.fills.specs.Weights.{products}
-use Rattle.fills.proofs.Largest.{largest-append}
 use Rattle.fills.proofs.Entries.{entries-length, valids-map}
 use Rattle.fills.proofs.States.{slots-length, slot-holds}
 use Rattle.fills.proofs.Alone.{cs-alone, ls-alone}
@@ -36,12 +36,6 @@ largest-each M [] p = omega arith
 largest-each M (v ∷ s) p =
     let first = p 0 (omega arith) in
     omega (arith, largest-each M s (λ k l. p (suc k) (omega arith)))
-
-largest-take : (n : ℕ) (s : List ℕ) → largest (take n s) ≤ largest s
-unfolding largest
-largest-take zero s = omega arith
-largest-take (suc n) [] = omega arith
-largest-take (suc n) (v ∷ s) = omega (arith, largest-take n s)
 
 -- ---- the valid values of a part of the hours
 valids-append : {A : Type 0} (s t : List (Slot A)) → valids (s ++ t) ≡ valids s ++ valids t
@@ -71,40 +65,19 @@ module _ (M : ℕ) where
   valids-each (missing ∷ s) p = valids-each s (λ h w l e. p (suc h) w (omega arith) e)
   valids-each (stopped ∷ s) p = valids-each s (λ h w l e. p (suc h) w (omega arith) e)
 
-  -- ---- a fill
-  window-most : (n : ℕ) (before after : List ℕ) → largest before ≤ M → largest after ≤ M → largest (window n before after) ≤ M
-  unfolding window
-  window-most n [] after b a = le-trans (largest-take n after) a
-  window-most n (x ∷ before) after b a = le-trans (largest-take n (x ∷ before)) b
-
-  short-most : (before after : List ℕ) → largest before ≤ M → largest after ≤ M → short meanUp same before after ≤ M
-  unfolding short largest same meanUp
-  short-most [] [] b a = omega arith
-  short-most [] (y ∷ after) b a = omega arith
-  short-most (x ∷ before) [] b a = omega arith
-  short-most (x ∷ before) (y ∷ after) b a = omega (arith, mean-is x y)
-
-  long-most : (before after : List ℕ) → largest before ≤ M → largest after ≤ M → long meanUp same before after ≤ M
-  unfolding long same
-  long-most before after b a = window-most 720 before after b a
-
-  pub fill-most : (gap : ℕ) (before after : List ℕ) → largest before ≤ M → largest after ≤ M → fill meanUp same gap before after ≤ M
-  unfolding fill
-  fill-most gap before after b a =
-      pick-case (λ (v : ℕ). v ≤ M) (leb gap 24) _ _ (λ t. short-most before after b a) (λ t. long-most before after b a)
-
+  -- ---- the fill of an hour
   pub fillAt-most : (slots : List (Slot ℕ)) (h : ℕ) → largest (valids slots) ≤ M → fillAt slots h ≤ M
   unfolding fillAt entry
   fillAt-most slots h p =
       let split : (k : ℕ) → largest (valids slots) ≡ max (largest (valids (take k slots))) (largest (valids (drop k slots))) = λ k. ap (λ (t : List (Slot ℕ)). largest (valids t)) (sym (take-append-drop k slots)) ∙ most-append (take k slots) (drop k slots) in
-      fill-most _ _ _ (omega (arith, most-reverse (take h slots), split h)) (omega (arith, split (h + 1)))
+      fill-most M _ _ _ (omega (arith, most-reverse (take h slots), split h)) (omega (arith, split (h + 1)))
 
   -- ---- every entry
   entry-most : (before : List (Slot ℕ)) (s : Slot ℕ) (after : List (Slot ℕ)) → largest (valids before) ≤ M → largest (valids (s ∷ after)) ≤ M
       → entry (λ v. v) (fill meanUp same) 0 before s after ≤ M
   unfolding entry valids largest
   entry-most before (valid v) after b a = omega arith
-  entry-most before missing after b a = fill-most _ _ _ b a
+  entry-most before missing after b a = fill-most M _ _ _ b a
   entry-most before stopped after b a = omega arith
 
   pub entries-most : (before slots : List (Slot ℕ)) → largest (valids before) ≤ M → largest (valids slots) ≤ M

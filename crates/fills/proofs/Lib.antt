@@ -1,5 +1,4 @@
 -- Laws about fills, each proved once; proofs of functions cite them, and so do the layers above.
-pub mod Largest
 pub mod Neighbours
 pub mod States
 pub mod Gather

@@ -1,15 +1,13 @@
 // The gaps of a line's two quantities. A state is 2 for a measured hour and 1 for a missing one; with any other the hour is stopped.
 ghost use mathlib.Core.Path.{_≡_};
 ghost use mathlib.Core.List.{reverse};
-ghost use Prim.Native.Nat.{_≤_};
+ghost use Prim.Native.Nat.{_≤_, min};
 ghost use lib.ListN.{length, take, drop};
 ghost use Rattle.law.specs.Words.{over};
 ghost use Rattle.rules.specs.Slots.{valids};
 ghost use Rattle.rules.specs.Fill.{fill, meanUp, same};
 ghost use Rattle.fills.specs.Gaps.{hoursInBoth, filledCells};
 ghost use Rattle.fills.specs.Parts.{row, Measured, Scanned, spot, patched};
-use crate::rule::fill_of;
-use crate::smaller;
 
 // What a scan from an hour on finds: the missing hours up to the next valid one, and that hour, or the number of hours.
 struct Gap {
@@ -78,10 +76,10 @@ fn filler(part: &mut [u32], states: &[u8], count: usize, v: u32)
 
 // One quantity of the gap at hour `first`: `kept` has its valid values, of which `b` stand before the gap.
 fn fill_one(states: &[u8], values: &mut [u32], kept: &[u32], first: usize, b: usize, gap: Gap)
-    requires { ⌜ (first ≤ gap .next) × (gap .next ≤ length (now states)) × (gap .next ≤ length (now values)) × (b ≤ length (now kept)) ⌝ }
+    requires { ⌜ (first ≤ gap .next) × (gap .next ≤ length (now states)) × (gap .next ≤ length (now values)) ⌝ }
     ensures { λ _. ⌜ now (values .exit) ≡ patched (now (states .entry)) (fill meanUp same (gap .missing) (reverse (take b (now (kept .entry)))) (drop b (now (kept .entry)))) first (gap .next) (now (values .entry)) ⌝ }
 {
-    let v = fill_of(gap.missing, kept, b);
+    let v = gap::fill_of(gap.missing, kept, b);
     filler(&mut values[first..], &states[first..], gap.next - first, v);
 }
 
@@ -137,6 +135,12 @@ fn fill_both(states: &[u8], concentrations: &mut [u32], flows: &mut [u32])
     let mut ls = [0u32; 2208];
     let count = gather(states, concentrations, flows, &mut cs, &mut ls);
     walk(states, concentrations, flows, &cs[0..count], &ls[0..count]);
+}
+
+fn smaller(a: usize, b: usize) -> usize
+    ensures { λ r. ⌜ r ≡ min a b ⌝ }
+{
+    if a <= b { a } else { b }
 }
 
 // Fills the missing hours of both quantities: of the hours that have a state and both cells, the first 2,208.

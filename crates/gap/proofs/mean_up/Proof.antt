@@ -1,10 +1,10 @@
--- `rule::mean_up` meets its contract. Assumes nothing.
+-- `mean_up` meets its contract. Assumes nothing.
 use mathlib.Core.Path.{sym}
 use Rattle.law.proofs.Halves.{mean-is}
 use Rattle.rules.specs.Fill.{meanUp}
 use borrow.Author.Needs.{needs}
-use Rattle.fills.proofs.rule.mean_up.Statement.{statement}
-use Rattle.fills.proofs.rule.mean_up.Tie as tie
+use Rattle.gap.proofs.mean_up.Statement.{statement}
+use Rattle.gap.proofs.mean_up.Tie as tie
 
 add-result : tie.Need-add-result
 add-result c = search needs

@@ -1,4 +1,4 @@
--- `rule::long_fill` meets its contract. Assumes nothing.
+-- `long_fill` meets its contract. Assumes nothing.
 use mathlib.Core.Path.{_≡_, _∙_, sym, ap}
 use mathlib.Core.List.{List, reverse}
 use Prim.Native.Nat.{ℕ}
@@ -8,10 +8,10 @@ use lib.ListN.{take, drop}
 use denote.Ref.{now}
 use Rattle.law.specs.Words.{largest}
 use Rattle.rules.specs.Fill.{window, long, meanUp, same}
-use Rattle.fills.proofs.Largest.{take-few, largest-before, last-before}
+use Rattle.gap.proofs.Largest.{take-few, largest-before, last-before}
 use borrow.Author.Needs.{needs}
-use Rattle.fills.proofs.rule.long_fill.Statement.{statement}
-use Rattle.fills.proofs.rule.long_fill.Tie as tie
+use Rattle.gap.proofs.long_fill.Statement.{statement}
+use Rattle.gap.proofs.long_fill.Tie as tie
 
 smaller-requires : tie.Need-smaller-requires
 smaller-requires c κs = search needs
@@ -56,7 +56,7 @@ returns c =
     let a = n .before .before .before .args in
     let v = now (a .valid) in
     let fits = n .before .before .before .pre in
-    let e = last-before (a .b) v (n .before .if1 .taken) fits in
+    let e = last-before (a .b) v (omega arith) fits in
     c .largest-of .ensures
     ∙ largest-before 720 (a .b) (n .smaller .result) v fits (n .smaller .ensures)
     ∙ ap (λ (t : List ℕ). largest (take 720 t)) e

@@ -1,4 +1,4 @@
--- `rule::short_fill` meets its contract. Assumes nothing.
+-- `short_fill` meets its contract. Assumes nothing.
 use mathlib.Core.Path.{_∙_, sym, ap, ap₂}
 use mathlib.Core.List.{reverse}
 use Prim.Native.Nat.{ℕ, _≤_}
@@ -7,10 +7,10 @@ use lib.ListN.{length, take, drop, drop-of-length-le}
 use lib.Seq.{drop-cons}
 use denote.Ref.{now}
 use Rattle.rules.specs.Fill.{short, meanUp, same}
-use Rattle.fills.proofs.Largest.{none-of, last-before}
+use Rattle.gap.proofs.Largest.{none-of, last-before}
 use borrow.Author.Needs.{needs}
-use Rattle.fills.proofs.rule.short_fill.Statement.{statement}
-use Rattle.fills.proofs.rule.short_fill.Tie as tie
+use Rattle.gap.proofs.short_fill.Statement.{statement}
+use Rattle.gap.proofs.short_fill.Tie as tie
 
 returns : tie.Need-returns
 unfolding short same

@@ -1,11 +1,16 @@
 // The fill of one gap by the valid values of one quantity, in the order of the hours: `b` of them stand before the gap, and the rest after it.
 ghost use mathlib.Core.Path.{_≡_};
 ghost use mathlib.Core.List.{reverse};
-ghost use Prim.Native.Nat.{_≤_};
+ghost use Prim.Native.Nat.{_≤_, min};
 ghost use lib.ListN.{length, take, drop};
 ghost use Rattle.law.specs.Words.{largest};
 ghost use Rattle.rules.specs.Fill.{short, long, fill, meanUp, same};
-use crate::smaller;
+
+fn smaller(a: usize, b: usize) -> usize
+    ensures { λ r. ⌜ r ≡ min a b ⌝ }
+{
+    if a <= b { a } else { b }
+}
 
 fn largest_of(s: &[u32]) -> u32
     ensures { λ r. ⌜ r ≡ largest (now (s .entry)) ⌝ }
@@ -62,13 +67,15 @@ fn long_fill(valid: &[u32], b: usize) -> u32
     }
 }
 
+// Of a gap of `gap` missing hours. Where `b` is past the end, all values stand before the gap.
 pub fn fill_of(gap: usize, valid: &[u32], b: usize) -> u32
-    requires { ⌜ b ≤ length (now valid) ⌝ }
     ensures { λ r. ⌜ r ≡ fill meanUp same gap (reverse (take b (now (valid .entry)))) (drop b (now (valid .entry))) ⌝ }
 {
+    let n = valid.len();
+    let before = smaller(n, b);
     if gap <= 24 {
-        short_fill(valid, b)
+        short_fill(valid, before)
     } else {
-        long_fill(valid, b)
+        long_fill(valid, before)
     }
 }

@@ -1,4 +1,4 @@
--- `rule::largest_of` meets its contract. Assumes nothing.
+-- `largest_of` meets its contract. Assumes nothing.
 use mathlib.Core.Path.{_≡_}
 use mathlib.Core.Logic.{⊎-elim}
 use Prim.Native.Nat.{_-_, _≤_, max}
@@ -6,10 +6,10 @@ use native.Mathlib.Omega.{arith}
 use lib.ListN.{length, drop}
 use denote.Ref.{now}
 use Rattle.law.specs.Words.{largest}
-use Rattle.fills.proofs.Largest.{largest-from, largest-done}
+use Rattle.gap.proofs.Largest.{largest-from, largest-done}
 use borrow.Author.Needs.{needs}
-use Rattle.fills.proofs.rule.largest_of.Statement.{statement}
-use Rattle.fills.proofs.rule.largest_of.Tie as tie
+use Rattle.gap.proofs.largest_of.Statement.{statement}
+use Rattle.gap.proofs.largest_of.Tie as tie
 
 abbrev Inv-loop : tie.InvT-loop
 Inv-loop s r₀ i₀ r i = (i ≤ length s) × (max r (largest (drop i s)) ≡ largest s)

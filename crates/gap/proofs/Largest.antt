@@ -1,11 +1,11 @@
 -- The largest of a list, whichever way the list is read, and a list by its ends. Assumes nothing.
-use mathlib.Core.Path.{_≡_, refl, _∙_, sym, ap}
+use mathlib.Core.Path.{_≡_, refl, _∙_, sym, ap, ap₂}
 use mathlib.Core.List.{List, [], _∷_, _++_, reverse, reverse-cons, reverse-append}
 use mathlib.Core.Bool.{Bool, true, false}
 use Prim.Native.Nat.{ℕ, suc, _+_, _-_, _<_, _≤_, min, max}
 use native.Mathlib.Numerals.{add-one}
 use native.Mathlib.Omega.{arith}
-use lib.ListN.{length, getD, take, drop, length-drop, length-reverse, take-append-drop}
+use lib.ListN.{length, getD, take, drop, length-drop, length-reverse, take-append-drop, drop-of-length-le}
 use lib.Seq.{drop-cons, take-suc, take-at, take-all, take-length, take-add, drop-at, drop-length, length-take-le}
 use lib.Dec.{leb}
 use borrow.Author.Tests.{leb-true, leb-false}
@@ -31,17 +31,26 @@ last-part c s l =
 largest-last : (c : ℕ) (s : List ℕ) → c ≤ length s → largest (drop (length s - c) s) ≡ largest (take c (reverse s))
 largest-last c s l = sym (ap largest (last-part c s l) ∙ largest-reverse (drop (length s - c) s))
 
--- the first w, or all if fewer
-few-by : (w : ℕ) (s : List ℕ) (t : Bool) → leb (length s) w ≡ t → take (min (length s) w) s ≡ take w s
-few-by w s true e =
-    let l = leb-true (length s) w e in
-    ap (λ (k : ℕ). take k s) (let m : min (length s) w ≡ length s = omega arith in m) ∙ take-length s ∙ sym (take-all w s l)
-few-by w s false e =
-    let l = leb-false (length s) w e in
-    ap (λ (k : ℕ). take k s) (let m : min (length s) w ≡ w = omega arith in m)
+-- the first w, or all if fewer, and what is behind them
+few-by : {A : Type 0} (f : ℕ → A) (n w : ℕ) → (n ≤ w → f n ≡ f w) → (t : Bool) → leb n w ≡ t → f (min n w) ≡ f w
+few-by f n w h true e =
+    let l = leb-true n w e in
+    ap f (let m : min n w ≡ n = omega arith in m) ∙ h l
+few-by f n w h false e =
+    let l = leb-false n w e in
+    ap f (let m : min n w ≡ w = omega arith in m)
 
 pub take-few : (w : ℕ) (s : List ℕ) → take (min (length s) w) s ≡ take w s
-take-few w s = few-by w s (leb (length s) w) refl
+take-few w s = few-by (λ (k : ℕ). take k s) (length s) w (λ l. take-length s ∙ sym (take-all w s l)) (leb (length s) w) refl
+
+drop-few : (w : ℕ) (s : List ℕ) → drop (min (length s) w) s ≡ drop w s
+drop-few w s = few-by (λ (k : ℕ). drop k s) (length s) w (λ l. drop-length s ∙ sym (drop-of-length-le s l)) (leb (length s) w) refl
+
+-- a list parted at b, which past its end is parted at its end
+pub parted : {A : Type 0} (rule : List ℕ → List ℕ → A) (b c : ℕ) (s : List ℕ) → c ≡ min (length s) b
+    → rule (reverse (take c s)) (drop c s) ≡ rule (reverse (take b s)) (drop b s)
+parted rule b c s e =
+    ap (λ (k : ℕ). rule (reverse (take k s)) (drop k s)) e ∙ ap₂ (λ (t u : List ℕ). rule (reverse t) u) (take-few b s) (drop-few b s)
 
 -- the last w of the first b, or all if fewer, nearest first
 pub largest-before : (w b c : ℕ) (s : List ℕ) → b ≤ length s → c ≡ min b w → largest (take (b - (b - c)) (drop (b - c) s)) ≡ largest (take w (reverse (take b s)))
