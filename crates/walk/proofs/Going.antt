@@ -1,6 +1,6 @@
 -- The loop of the walk: the code's state stands for some lines, from which the rules' walk goes on to the file's outcome. Assumes nothing.
 use mathlib.Core.Path.{_≡_, refl, _∙_, sym, ap, ap₂, subst}
-use mathlib.Core.Bool.{Bool, true, false, true≢false}
+use mathlib.Core.Bool.{Bool, true, false, true≢false, not}
 use mathlib.Core.List.{List, []}
 use Prim.Native.Nat.{ℕ, zero, suc, _+_, _-_, _<_, _≤_}
 use native.Mathlib.Omega.{arith}
@@ -259,7 +259,7 @@ module _ (file : List ℕ) (p : Progress) (runs measured flags conc flow out : L
     closed-by (Inside x done) q e w l a b c = absurd (true≢false (sym (ap (λ (x : View). x .inside) (g .kept .view ∙ ap viewOf (sym q))) ∙ e))
 
   abbrev foundBy : Bool → Bool → Tally
-  foundBy a b = record { fault = need (p .fault) a (need fine b (refuse 2 (length file))); lines = p .view .lines; total1 = p .sums .total1; total2 = p .sums .total2; total3 = p .sums .total3 }
+  foundBy a b = record { fault = need (p .fault) a (need (refuse 2 (length file)) (not b) fine); lines = p .view .lines; total1 = p .sums .total1; total2 = p .sums .total2; total3 = p .sums .total3 }
 
   ends-by : (a b : Bool) → eqb (p .fault .number) 0 ≡ a → p .view .inside ≡ b → WalkPromise file out conc flow (foundBy a b)
   unfolding need fine refuse

@@ -1,6 +1,6 @@
 -- The view and the sums after each kind of record that is not refused.
 use Prim.Native.Nat.{ℕ, _+_, _*_, max}
-use mathlib.Core.Bool.{Bool, true, false}
+use mathlib.Core.Bool.{Bool, true, false, not}
 use lib.Dec.{eqb}
 use Rattle.law.specs.Words.{need, pick}
 use Rattle.rules.specs.declared.Head.{Head}
@@ -83,7 +83,7 @@ movedOn t next end = record { fault = t .fault; at = pick (eqb (t .fault .number
 
 -- 2 where a file that is not refused ends inside a line
 abbrev pub lastFault : Fault → Bool → ℕ → Fault
-lastFault fault inside end = first fault (need fine inside (refuse 2 end))
+lastFault fault inside end = first fault (need (refuse 2 end) (not inside) fine)
 
 -- what the walk hands back
 abbrev pub foundOf : Progress → ℕ → Tally

@@ -1,7 +1,9 @@
 // One walk over the file: each record read, judged and taken in.
+use crate::books::BEGIN;
+use crate::books::NO_SUMS;
 use crate::books::Sums;
-use crate::books::begin;
 use crate::tables::clear_both;
+use crate::take::FINE;
 use crate::take::Taken;
 use crate::take::take;
 use record::Record;
@@ -10,10 +12,8 @@ use rules::View;
 ghost use mathlib.Core.Path.{_≡_};
 ghost use Prim.Native.Nat.{_<_, _≤_};
 ghost use lib.ListN.{length, take};
-ghost use lib.Dec.{eqb};
-ghost use Rattle.law.specs.Words.{pick};
 ghost use Rattle.judge.specs.Flat.{judgeFlat};
-ghost use Rattle.walk.specs.Views.{noSums, atStart, movedOn, lastFault, foundOf};
+ghost use Rattle.walk.specs.Views.{movedOn, foundOf};
 ghost use Rattle.walk.specs.Books.{noRows};
 ghost use Rattle.walk.specs.Walking.{Reached, WalkPromise};
 
@@ -34,36 +34,13 @@ pub struct Tally {
     pub total3: u64,
 }
 
-fn no_sums() -> Sums
-    ensures { λ r. ⌜ r ≡ noSums ⌝ }
-{
-    Sums {
-        surveyed: 0,
-        weight: 0,
-        sulphur: 0,
-        ash: 0,
-        used: 0,
-        total1: 0,
-        total2: 0,
-        total3: 0,
-    }
-}
-
-fn started() -> Progress
-    ensures { λ r. ⌜ r ≡ atStart ⌝ }
-{
-    let view = begin();
-    let sums = no_sums();
-    Progress {
-        fault: Fault {
-            number: 0,
-            place: 0,
-        },
-        at: 0,
-        view,
-        sums,
-    }
-}
+// Nothing is read.
+const START: Progress = Progress {
+    fault: FINE,
+    at: 0,
+    view: BEGIN,
+    sums: NO_SUMS,
+};
 
 // The run masks of the days so far are lent to the judge.
 fn judged(at: usize, v: View, runs: &[u32], r: Record) -> Fault
@@ -75,21 +52,16 @@ fn judged(at: usize, v: View, runs: &[u32], r: Record) -> Fault
 }
 
 // After a refusal nothing more is read.
-fn next_place(f: Fault, next: usize, end: usize) -> usize
-    ensures { λ r. ⌜ r ≡ pick (eqb (f .number) 0) next end ⌝ }
-{
-    if f.number == 0 { next } else { end }
-}
-
 fn moved_on(t: Taken, next: usize, end: usize) -> Progress
     ensures { λ r. ⌜ r ≡ movedOn t next end ⌝ }
 {
     let fault = t.fault;
     let view = t.view;
     let sums = t.sums;
+    let at = if fault.number == 0 { next } else { end };
     Progress {
         fault,
-        at: next_place(fault, next, end),
+        at,
         view,
         sums,
     }
@@ -128,24 +100,6 @@ fn step(
 }
 
 // A file that is not refused may still end inside a line.
-fn last_fault(f: Fault, inside: bool, end: usize) -> Fault
-    ensures { λ r. ⌜ r ≡ lastFault f inside end ⌝ }
-{
-    if f.number != 0 {
-        return f;
-    }
-    if inside {
-        return Fault {
-            number: 2,
-            place: end,
-        };
-    }
-    Fault {
-        number: 0,
-        place: 0,
-    }
-}
-
 fn found(p: Progress, end: usize) -> Tally
     ensures { λ r. ⌜ r ≡ foundOf p end ⌝ }
 {
@@ -153,7 +107,7 @@ fn found(p: Progress, end: usize) -> Tally
     let v = p.view;
     let s = p.sums;
     Tally {
-        fault: last_fault(f, v.inside, end),
+        fault: faults::first_of(f, faults::refuse_unless(2, end, !v.inside)),
         lines: v.lines,
         total1: s.total1,
         total2: s.total2,
@@ -169,7 +123,7 @@ pub fn walk(file: &[u8], out: &mut [u64; 336], conc: &mut [u32], flow: &mut [u32
     let mut measured = [0u32; 92];
     let mut flags = [0u32; 2208];
     clear_both(conc, flow, 2208);
-    let mut p = started();
+    let mut p = START;
     while p.at < file.len() {
         let q = step(
             file,
