@@ -1,4 +1,4 @@
--- Laws of masks, of a line's days and of an hour's state, and what the proofs of the code lean on.
+-- Laws of a line's days and of an hour's state, and what the proofs of the code lean on.
 pub mod Bits
 pub mod Days
 pub mod Laws
