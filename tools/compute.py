@@ -4,7 +4,7 @@
 usage: tools/compute.py [--max BYTES] FILE.rec..        (beside each FILE.rec a FILE.out with what `account` must print)
 
 No code of the account takes part. Each file becomes one statement, `printed FILE ≡ ANSWER`, proved by refl in a throwaway crate of a throwaway
-repository under target/compute/, which holds links to the rules and to the definition of `printed`. Larger files than BYTES (3000) are passed over.
+repository under target/compute/, which holds links to the rules and copies of the definition of `printed`. Larger files than BYTES (3000) are passed over.
 The last line says how many agree; the exit status is 0 only where all do.
 """
 import os, re, shutil, subprocess, sys, time
@@ -45,15 +45,16 @@ def names(crates):
     return uses, opened
 
 
-def definition(lines):
-    """The definition of `printed` alone, without the calls that write it."""
-    here = os.path.join(WORK, 'crates', 'printed')
+def definition(crate, part, deps, lines):
+    """One file of a crate's definitions alone, without the calls that write what it defines."""
+    here = os.path.join(WORK, 'crates', crate)
     os.makedirs(os.path.join(here, 'src'))
     os.makedirs(os.path.join(here, 'specs'))
     open(os.path.join(here, 'src', 'lib.rt'), 'w').write('// The definition alone.\n')
-    open(os.path.join(here, 'specs', 'Lib.antt'), 'w').write('pub mod Program\n')
-    shutil.copy(os.path.join(ROOT, 'crates', 'printed', 'specs', 'Program.antt'), os.path.join(here, 'specs'))
-    lines.append('printed: law rules')
+    open(os.path.join(here, 'specs', 'Lib.antt'), 'w').write('pub mod %s\n' % part)
+    shutil.copy(os.path.join(ROOT, 'crates', crate, 'specs', part + '.antt'), os.path.join(here, 'specs'))
+    lines.append('%s: %s' % (crate, deps))
+    return crate
 
 
 def number(b):
@@ -90,8 +91,8 @@ def main(args):
     for c in base:
         os.symlink(os.path.join(ROOT, 'crates', c), os.path.join(WORK, 'crates', c))
         lines.append('%s: %s' % (c, ' '.join(deps[c])))
-    definition(lines)
-    base.append('printed')
+    base.append(definition('text', 'Line', 'law rules', lines))
+    base.append(definition('printed', 'Program', 'law rules text', lines))
     uses, opened = names(base)
     for k in range(0, len(files), BATCH):
         c = 'computed%d' % (k // BATCH)

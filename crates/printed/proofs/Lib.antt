@@ -1,6 +1,3 @@
--- The text that the program prints, as it is written.
-pub mod Wrote
-pub mod Numbers
-pub mod Spaced
+-- The texts of an answer, and that no second one meets the promise of a public call.
 pub mod Texts
 pub mod Only

@@ -1,9 +1,15 @@
--- No second count or buffer meets the promise of a text call. Assumes nothing.
-use mathlib.Core.Path.{_≡_, _∙_, sym}
+-- No second count or buffer meets the promise of a public call. Assumes nothing.
+use mathlib.Core.Path.{_≡_}
 use mathlib.Core.List.{List}
 use Prim.Native.Nat.{ℕ}
-use Rattle.printed.specs.Text.{Text}
+use Rattle.rules.specs.Walk.{outcome}
+use Rattle.text.specs.Text.{Text}
+use Rattle.text.proofs.Only.{text-only}
+use Rattle.printed.specs.Program.{printedFrom, printed}
 
--- `answer_text` at the bytes of the file's outcome, `program_text` at those that are printed
-pub text-only : (bytes old new₁ new₂ : List ℕ) (r₁ r₂ : ℕ) → Text bytes old new₁ r₁ → Text bytes old new₂ r₂ → (r₁ ≡ r₂) × (new₁ ≡ new₂)
-text-only bytes old new₁ new₂ r₁ r₂ p q = (p .counts ∙ sym (q .counts), p .says ∙ sym (q .says))
+module _ (old new₁ new₂ : List ℕ) (r₁ r₂ : ℕ) where
+  pub answer-text : (file : List ℕ) → Text (printedFrom (outcome file)) old new₁ r₁ → Text (printedFrom (outcome file)) old new₂ r₂ → (r₁ ≡ r₂) × (new₁ ≡ new₂)
+  answer-text file = text-only old new₁ new₂ r₁ r₂ (printedFrom (outcome file))
+
+  pub program-text : (input : List ℕ) → Text (printed input) old new₁ r₁ → Text (printed input) old new₂ r₂ → (r₁ ≡ r₂) × (new₁ ≡ new₂)
+  program-text input = text-only old new₁ new₂ r₁ r₂ (printed input)

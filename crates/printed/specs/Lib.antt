@@ -1,3 +1,2 @@
 -- Document 01, "Figures to agree on": the program `account`.
 pub mod Program
-pub mod Text

@@ -1,31 +1,14 @@
 -- "The program `account` reads a record file on standard input": what it prints, as bytes; 13.
-use Prim.Native.Nat.{ℕ, zero, suc, _+_, _/_, _%_}
+use Prim.Native.Nat.{ℕ}
 use mathlib.Core.List.{List, [], _∷_, _++_}
 use lib.ListN.{length}
-use lib.Dec.{leb, ltb}
-use Rattle.law.specs.Words.{pick, need}
-use Rattle.rules.specs.declared.Fault.{Fault}
+use lib.Dec.{leb}
+use Rattle.law.specs.Words.{need}
 use Rattle.rules.specs.Judge.{refuse}
 use Rattle.rules.specs.Lines.{Line}
 use Rattle.rules.specs.Row.{rowOf, totalOf}
 use Rattle.rules.specs.Walk.{Outcome, Refused, Accepted, outcome}
-
--- a number in decimal, before a text; '0' is 48
-unfoldable pub decimalFrom : ℕ → ℕ → List ℕ → List ℕ
-decimalFrom zero n text = text
-decimalFrom (suc places) n text =
-    let more = decimalFrom places (n / 10) ((48 + n % 10) ∷ text) in
-    pick (ltb n 10) ((48 + n % 10) ∷ text) more
-
--- a u64 in decimal: it has at most 20 digits
-unfoldable pub decimal : ℕ → List ℕ
-decimal n = decimalFrom 20 n []
-
--- numbers with a space between two, and a line feed
-unfoldable pub spaced : List ℕ → List ℕ
-spaced [] = 10 ∷ []
-spaced (n ∷ []) = decimal n ++ (10 ∷ [])
-spaced (n ∷ m ∷ ns) = decimal n ++ (32 ∷ spaced (m ∷ ns))
+use Rattle.text.specs.Line.{spaced, refusedLine}
 
 -- "it prints one line a row (fields as above)", of lines of which the newest stands first
 unfoldable pub rowLines : List Line → List ℕ
@@ -36,10 +19,6 @@ rowLines (x ∷ xs) = rowLines xs ++ spaced (rowOf x)
 unfoldable pub totalLine : List Line → List ℕ
 totalLine lines =
     (116 ∷ 111 ∷ 116 ∷ 97 ∷ 108 ∷ 32 ∷ []) ++ spaced (totalOf 1 lines ∷ totalOf 2 lines ∷ totalOf 3 lines ∷ [])
-
--- "refused N OFFSET"
-unfoldable pub refusedLine : Fault → List ℕ
-refusedLine f = (114 ∷ 101 ∷ 102 ∷ 117 ∷ 115 ∷ 101 ∷ 100 ∷ 32 ∷ []) ++ spaced (f .number ∷ f .place ∷ [])
 
 -- "a refused input prints only .."; an accepted one its rows and totals
 unfoldable pub printedFrom : Outcome → List ℕ

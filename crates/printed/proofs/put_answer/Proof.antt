@@ -1,8 +1,7 @@
--- `printed::put_answer` meets its contract. Assumes nothing.
-use native.Mathlib.Omega.{arith}
-use borrow.Author.Needs.{needs}
-use Rattle.printed.proofs.Texts.{answer-refused, answer-stated, rows-48}
+-- `printed::put_answer` meets its contract: what is written is the definition's text of the file. Assumes nothing.
 use mathlib.Core.Path.{refl}
+use borrow.Author.Needs.{needs}
+use Rattle.printed.proofs.Texts.{text-as, answer-refused, answer-stated}
 use Rattle.printed.proofs.put_answer.Statement.{statement}
 use Rattle.printed.proofs.put_answer.Tie as tie
 
@@ -18,32 +17,37 @@ slice-aggregate-account-3 c = search needs
 account-requires : tie.Need-account-requires
 account-requires c κs = search needs
 
-cast-put-refused : tie.Need-cast-put-refused
-cast-put-refused c = search needs
+cast-refused-text : tie.Need-cast-refused-text
+cast-refused-text c = search needs
 
-put-refused-requires : tie.Need-put-refused-requires
-put-refused-requires c κs = search needs
+refused-text-requires : tie.Need-refused-text-requires
+refused-text-requires c κs = search needs
 
 same-length : tie.Need-same-length
 same-length c = search needs
 
 returns : tie.Need-returns
-returns c = answer-refused _ _ _ _ _ _ _ _ (c .before .before .before .before .before .before .before .before .before .before .account .ensures) _ _ _ refl refl refl (c .before .before .before .before .before .if1 .taken) (c .before .before .put-refused .ensures)
+returns c =
+    let w = c .before .before in
+    let t = w .before .before .before in
+    let a = t .before .before .before .before .before in
+    text-as _ _ _ _ _ (answer-refused _ _ _ _ _ _ _ _ (a .account .ensures) refl refl refl (t .if1 .taken)) (w .refused-text .ensures)
 
-slice-aggregate-put-stated : tie.Need-slice-aggregate-put-stated
-slice-aggregate-put-stated c = search needs
+slice-aggregate-stated-text : tie.Need-slice-aggregate-stated-text
+slice-aggregate-stated-text c = search needs
 
-slice-aggregate-put-stated-2 : tie.Need-slice-aggregate-put-stated-2
-slice-aggregate-put-stated-2 c = search needs
-
-put-stated-requires : tie.Need-put-stated-requires
-put-stated-requires c κs = let a = c .before .before .before .before .before .before .before .before in let m = rows-48 _ _ _ _ _ _ _ _ (a .account .ensures) (c .before .before .before .if1 .left) in (omega (arith, m), omega (arith, m, a .account .kept .1 .0), refl, omega (arith, a .before .before .before .before .before .before .pre))
+stated-text-requires : tie.Need-stated-text-requires
+stated-text-requires c κs = search needs
 
 same-length-2 : tie.Need-same-length-2
 same-length-2 c = search needs
 
 returns-2 : tie.Need-returns-2
-returns-2 c = answer-stated _ _ _ _ _ _ _ _ (c .before .before .before .before .before .before .before .before .before .before .before .account .ensures) _ _ _ (c .before .before .before .before .before .before .if1 .left) (c .before .before .put-stated .ensures)
+returns-2 c =
+    let w = c .before .before in
+    let t = w .before .before .before .before in
+    let a = t .before .before .before .before .before in
+    text-as _ _ _ _ _ (answer-stated _ _ _ _ _ _ _ _ (a .account .ensures) (t .if1 .left) (a .account .kept .1 .0)) (w .stated-text .ensures)
 
 pub put-answer-spec : {M : Type 1} → statement M
 put-answer-spec =
@@ -53,12 +57,11 @@ put-answer-spec =
     slice-aggregate-account-2
     slice-aggregate-account-3
     account-requires
-    cast-put-refused
-    put-refused-requires
+    cast-refused-text
+    refused-text-requires
     same-length
     returns
-    slice-aggregate-put-stated
-    slice-aggregate-put-stated-2
-    put-stated-requires
+    slice-aggregate-stated-text
+    stated-text-requires
     same-length-2
     returns-2)

@@ -1,14 +1,13 @@
 -- Numbers written with a space between two and a line feed behind the last; rows written one behind the other. Assumes nothing.
 use mathlib.Core.Path.{_≡_, refl, sym, ap, _∙_, subst}
-use mathlib.Core.List.{List, [], _∷_, _++_, append-assoc, append-nil}
-use Prim.Native.Nat.{ℕ, zero, suc, _+_, _-_, _*_, _<_, _≤_}
-use native.Mathlib.Nat.{add-zero}
+use mathlib.Core.List.{List, [], _∷_, _++_, append-assoc}
+use Prim.Native.Nat.{ℕ, suc, _+_, _-_, _*_, _<_, _≤_}
 use native.Mathlib.Omega.{arith}
 use lib.ListN.{length, take, drop, getD, drop-of-length-le}
 use lib.Seq.{drop-cons}
-use Rattle.printed.specs.Program.{decimal, spaced}
-use Rattle.printed.specs.Text.{Wrote, rowsText}
-use Rattle.printed.proofs.Wrote.{wrote-none, wrote-on, wrote-as}
+use Rattle.text.specs.Line.{decimal, spaced}
+use Rattle.text.specs.Text.{Wrote, rowsText}
+use Rattle.text.proofs.Wrote.{wrote-none, wrote-on, wrote-as}
 
 -- one number more, and the last
 spaced-more : (cells : List ℕ) (i : ℕ) → suc i < length cells → spaced (drop i cells) ≡ (decimal (getD cells i 0) ++ (32 ∷ [])) ++ spaced (drop (suc i) cells)

@@ -1,7 +1,7 @@
 -- Bytes written one behind the other. Assumes nothing.
 use mathlib.Core.Path.{_≡_, refl, sym, ap, ap₂, _∙_, subst}
 use mathlib.Core.List.{List, [], _∷_, _++_, append-nil, append-assoc}
-use Prim.Native.Nat.{ℕ, zero, suc, _+_, _-_, _<_, _≤_}
+use Prim.Native.Nat.{ℕ, suc, _+_, _-_, _<_, _≤_}
 use native.Mathlib.Nat.{add-zero}
 use native.Mathlib.Omega.{arith}
 use mathlib.Core.Bool.{Bool, true, false}
@@ -9,8 +9,8 @@ use lib.Dec.{leb}
 use Rattle.law.specs.Words.{need}
 use lib.ListN.{length, take, drop, set, getD, length-append, length-set, take-append-drop}
 use lib.Seq.{take-suc, take-suc-set, drop-set-lt, drop-drop, take-length}
-use Rattle.law.proofs.Tests.{need-le, need-not-le}
-use Rattle.printed.specs.Text.{Text, Wrote}
+use Rattle.law.proofs.Tests.{need-le, need-not-le, need-case}
+use Rattle.text.specs.Text.{Text, Wrote}
 
 pub wrote-none : (old : List ℕ) (at : ℕ) → Wrote old at [] old at
 wrote-none old at = record { ends = omega arith; says = sym (append-nil (take at old)); keeps = refl }
@@ -74,7 +74,7 @@ copying-done old text bytes at i p l =
     (wrote-as old text (take i bytes) bytes at (at + i) (ap (λ (k : ℕ). take k bytes) e ∙ take-length bytes) (p .wrote))
 
 -- ---- a text from the start of the buffer
-text-is : (bytes old new : List ℕ) (r : ℕ) → 8_192 ≤ length old → Wrote old 0 bytes new r → Text bytes old new r
+pub text-is : (bytes old new : List ℕ) (r : ℕ) → 8_192 ≤ length old → Wrote old 0 bytes new r → Text bytes old new r
 text-is bytes old new r l p =
     let n : r ≡ length bytes = omega (arith, p .ends) in
     record {
@@ -84,21 +84,24 @@ text-is bytes old new r l p =
           (sym (take-append-drop r new) ∙ ap₂ (λ (a b : List ℕ). a ++ b) (p .says) (p .keeps ∙ ap (λ (k : ℕ). drop k old) n));
     }
 
-short-is : (bytes old : List ℕ) → length old < 8_192 → Text bytes old old 0
-short-is bytes old l = record { counts = need-not-le 0 (length bytes) 8_192 (length old) l; says = need-not-le old (bytes ++ drop (length bytes) old) 8_192 (length old) l }
+pub text-short : (bytes old : List ℕ) → length old < 8_192 → Text bytes old old 0
+text-short bytes old l = record { counts = need-not-le 0 (length bytes) 8_192 (length old) l; says = need-not-le old (bytes ++ drop (length bytes) old) 8_192 (length old) l }
+
+-- no bytes: the buffer as it is
+pub text-none : (bytes old : List ℕ) → [] ≡ bytes → Text bytes old old 0
+text-none bytes old e =
+    let fits = leb 8_192 (length old) in
+    subst (λ (t : List ℕ). Text t old old 0) e
+    (record {
+      counts = need-case (λ (k : ℕ). 0 ≡ k) 0 fits 0 (λ h. refl) (λ h. refl);
+      says = need-case (λ (t : List ℕ). old ≡ t) old fits old (λ h. refl) (λ h. refl);
+    })
 
 -- the bytes counted stand in the buffer
-text-within : (bytes old new : List ℕ) (r : ℕ) → Text bytes old new r → r ≤ length new
+pub text-within : (bytes old new : List ℕ) (r : ℕ) → Text bytes old new r → r ≤ length new
 unfolding need
 text-within bytes old new r t = within-by (leb 8_192 (length old)) (t .counts) (t .says)
   where
     within-by : (fits : Bool) → r ≡ need 0 fits (length bytes) → new ≡ need old fits (bytes ++ drop (length bytes) old) → r ≤ length new
     within-by true c s = omega (arith, c, ap length s, length-append bytes (drop (length bytes) old))
     within-by false c s = omega (arith, c)
-
--- what a text call answers
-pub text-of : (bytes old new : List ℕ) (r : ℕ) → 8_192 ≤ length old → Wrote old 0 bytes new r → Text bytes old new r × (r ≤ length new)
-text-of bytes old new r l p = let t = text-is bytes old new r l p in (t, text-within bytes old new r t)
-
-pub text-short : (bytes old : List ℕ) → length old < 8_192 → Text bytes old old 0 × (0 ≤ length old)
-text-short bytes old l = (short-is bytes old l, omega arith)

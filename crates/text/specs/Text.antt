@@ -1,11 +1,11 @@
--- What the calls that write the text promise each other.
+-- What the calls that write a text into a lent buffer promise.
 use Prim.Native.Nat.{ℕ, zero, suc, _+_, _*_}
 use mathlib.Core.List.{List, [], _∷_, _++_}
 use mathlib.Core.Path.{_≡_}
 use lib.ListN.{length, take, drop}
 use lib.Dec.{leb}
 use Rattle.law.specs.Words.{need}
-use Rattle.printed.specs.Program.{spaced}
+use Rattle.text.specs.Line.{spaced}
 
 -- no text is longer than 8,192 bytes: into a shorter buffer nothing is written, and 0 bytes are counted; else exactly these bytes stand at its start, and
 -- the cells behind them are as they were
@@ -27,3 +27,7 @@ rowsText rows (suc n) = rowsText rows n ++ spaced (take 7 (drop (7 * n) rows))
 -- the rows, then "total A B C"
 unfoldable pub statedText : List ℕ → ℕ → List ℕ → List ℕ
 statedText rows n totals = rowsText rows n ++ ((116 ∷ 111 ∷ 116 ∷ 97 ∷ 108 ∷ 32 ∷ []) ++ spaced totals)
+
+-- the same of at most 48 rows that are all there; of other rows there is no text
+unfoldable pub statedLines : List ℕ → ℕ → List ℕ → List ℕ
+statedLines rows n totals = need [] (leb n 48) (need [] (leb (7 * n) (length rows)) (statedText rows n totals))

@@ -1,11 +1,11 @@
--- `printed::writing::put_spaced` meets its contract. Assumes nothing.
+-- `text::writing::put_spaced` meets its contract. Assumes nothing.
 use mathlib.Core.Path.{refl, _∙_}
 use Prim.Native.Nat.{_-_}
 use native.Mathlib.Omega.{arith}
 use borrow.Author.Needs.{needs}
-use Rattle.printed.proofs.Spaced.{Spacing, spacing-start, spacing-on, spacing-done}
-use Rattle.printed.proofs.writing.put_spaced.Statement.{statement}
-use Rattle.printed.proofs.writing.put_spaced.Tie as tie
+use Rattle.text.proofs.Spaced.{Spacing, spacing-start, spacing-on, spacing-done}
+use Rattle.text.proofs.writing.put_spaced.Statement.{statement}
+use Rattle.text.proofs.writing.put_spaced.Tie as tie
 
 abbrev Inv-loop : tie.InvT-loop
 Inv-loop text₀ at cells last end₀ i₀ text end i = Spacing text₀ at cells text end i

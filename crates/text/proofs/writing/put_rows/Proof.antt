@@ -1,13 +1,12 @@
--- `printed::writing::put_rows` meets its contract. Assumes nothing.
-use mathlib.Core.Path.{refl, _∙_}
+-- `text::writing::put_rows` meets its contract. Assumes nothing.
 use Prim.Native.Nat.{_-_, _≤_}
 use native.Mathlib.Omega.{arith}
 use borrow.Author.Needs.{needs}
-use Rattle.printed.proofs.Spaced.{Lining, lining-start, lining-on, lining-done}
-use Rattle.printed.proofs.Texts.{part-long, part-is}
+use Rattle.text.proofs.Spaced.{Lining, lining-start, lining-on, lining-done}
+use Rattle.text.proofs.Texts.{part-long, part-is}
 use denote.Ref.{now}
-use Rattle.printed.proofs.writing.put_rows.Statement.{statement}
-use Rattle.printed.proofs.writing.put_rows.Tie as tie
+use Rattle.text.proofs.writing.put_rows.Statement.{statement}
+use Rattle.text.proofs.writing.put_rows.Tie as tie
 
 abbrev Inv-loop : tie.InvT-loop
 Inv-loop text₀ rows n end₀ i₀ text end i = Lining text₀ rows text end i × (i ≤ n)

@@ -1,12 +1,12 @@
--- `printed::writing::put_bytes` meets its contract: after i turns the first i bytes stand behind what stood before. Assumes nothing.
+-- `text::writing::put_bytes` meets its contract: after i turns the first i bytes stand behind what stood before. Assumes nothing.
 use mathlib.Core.Path.{refl}
 use Prim.Native.Nat.{_-_}
 use native.Mathlib.Omega.{arith}
 use lib.ListN.{length}
 use borrow.Author.Needs.{needs}
-use Rattle.printed.proofs.Wrote.{Copying, copying-start, copying-on, copying-done}
-use Rattle.printed.proofs.writing.put_bytes.Statement.{statement}
-use Rattle.printed.proofs.writing.put_bytes.Tie as tie
+use Rattle.text.proofs.Wrote.{Copying, copying-start, copying-on, copying-done}
+use Rattle.text.proofs.writing.put_bytes.Statement.{statement}
+use Rattle.text.proofs.writing.put_bytes.Tie as tie
 
 abbrev Inv-loop : tie.InvT-loop
 Inv-loop text₀ at bytes i₀ text i = Copying text₀ at bytes text i

@@ -6,13 +6,13 @@ use Prim.Native.Nat.{ℕ, zero, suc, _+_, _-_, _*_, _/_, _%_, _^_, _<_, _≤_}
 use native.Mathlib.Omega.{arith}
 use lib.ListN.{length, take, length-take}
 use lib.Pow.{pow-add}
-use lib.Dec.{leb, ltb}
+use lib.Dec.{leb}
 use borrow.Author.Tests.{lt-ltb, le-ltb, leb-true, leb-false}
 use Rattle.law.specs.Words.{pick}
 use Rattle.io.specs.Digits.{digits, glyph, Fewest}
-use Rattle.printed.specs.Program.{decimalFrom, decimal}
-use Rattle.printed.specs.Text.{Wrote}
-use Rattle.printed.proofs.Wrote.{wrote-on, wrote-as}
+use Rattle.text.specs.Line.{decimalFrom, decimal}
+use Rattle.text.specs.Text.{Wrote}
+use Rattle.text.proofs.Wrote.{wrote-on, wrote-as}
 
 digit : (n : ℕ) → glyph (n % 10) ≡ 48 + n % 10
 digit n = ap (λ (t : Bool). cond t (48 + n % 10) (87 + n % 10)) (lt-ltb (n % 10) 10 (omega arith))

@@ -1,10 +1,9 @@
 // Bytes, numbers and rows written into the text, each behind the last.
-ghost use mathlib.Core.Path.{_≡_};
 ghost use mathlib.Core.List.{[], _∷_, _++_};
 ghost use Prim.Native.Nat.{_+_, _*_, _<_, _≤_};
 ghost use lib.ListN.{length};
-ghost use Rattle.printed.specs.Program.{decimal, spaced};
-ghost use Rattle.printed.specs.Text.{Wrote, rowsText};
+ghost use Rattle.text.specs.Line.{decimal, spaced};
+ghost use Rattle.text.specs.Text.{Wrote, rowsText};
 
 fn put_byte(text: &mut [u8], at: usize, b: u8) -> usize
     requires { ⌜ at < length (now text) ⌝ }

@@ -1,0 +1,42 @@
+-- `text::refused_text` meets its contract. Assumes nothing.
+use borrow.Author.Needs.{needs}
+use Rattle.text.proofs.Wrote.{text-is, text-short}
+use Rattle.text.proofs.Texts.{refused-wrote}
+use Rattle.text.proofs.refused_text.Statement.{statement}
+use Rattle.text.proofs.refused_text.Tie as tie
+
+returns : tie.Need-returns
+returns c = text-short _ _ (c .if1 .taken)
+
+slice-aggregate-put-bytes : tie.Need-slice-aggregate-put-bytes
+slice-aggregate-put-bytes c = search needs
+
+put-bytes-requires : tie.Need-put-bytes-requires
+put-bytes-requires c κs = search needs
+
+slice-aggregate-put-spaced : tie.Need-slice-aggregate-put-spaced
+slice-aggregate-put-spaced c = search needs
+
+put-spaced-requires : tie.Need-put-spaced-requires
+put-spaced-requires c κs = search needs
+
+same-length : tie.Need-same-length
+same-length c = search needs
+
+returns-2 : tie.Need-returns-2
+returns-2 c =
+    let s = c .before .before in
+    let b = s .before .before .before .before .before in
+    text-is _ _ _ _ (b .before .before .before .if1 .left) (refused-wrote _ _ _ _ _ _ _ (b .put-bytes .ensures) (s .put-spaced .ensures .0))
+
+pub refused-text-spec : {M : Type 1} → statement M
+refused-text-spec =
+    tie.close
+    (tie.spec
+    returns
+    slice-aggregate-put-bytes
+    put-bytes-requires
+    slice-aggregate-put-spaced
+    put-spaced-requires
+    same-length
+    returns-2)

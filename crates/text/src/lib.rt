@@ -1,0 +1,42 @@
+// The texts that the program prints, written into a lent buffer: a refusal, or rows and totals.
+mod writing; // writing.rt
+
+use crate::writing::put_bytes;
+use crate::writing::put_rows;
+use crate::writing::put_spaced;
+ghost use Rattle.rules.specs.Judge.{refuse};
+ghost use Rattle.text.specs.Line.{refusedLine};
+ghost use Rattle.text.specs.Text.{Text, statedLines};
+
+// No text is longer: 48 rows of seven numbers, and a line of three.
+const LONGEST: usize = 8192;
+
+// "refused N OFFSET"; 0 where the buffer could be too short.
+pub fn refused_text(text: &mut [u8], number: u64, place: u64) -> usize
+    ensures { λ r. ⌜ Text (refusedLine (refuse number place)) (now (text .entry)) (now (text .exit)) r ⌝ }
+{
+    if text.len() < LONGEST {
+        return 0;
+    }
+    let at = put_bytes(text, 0, b"refused ");
+    let cells = [number, place];
+    put_spaced(text, at, &cells)
+}
+
+// One line a row, then the totals; 0 where the buffer could be too short, for more than 48 rows, and where one is not there.
+pub fn stated_text(text: &mut [u8], rows: &[u64], n: usize, totals: &[u64; 3]) -> usize
+    ensures { λ r. ⌜ Text (statedLines (now (rows .entry)) n (now (totals .entry))) (now (text .entry)) (now (text .exit)) r ⌝ }
+{
+    if text.len() < LONGEST {
+        return 0;
+    }
+    if n > 48 {
+        return 0;
+    }
+    if rows.len() < 7 * n {
+        return 0;
+    }
+    let end = put_rows(text, rows, n);
+    let at = put_bytes(text, end, b"total ");
+    put_spaced(text, at, totals)
+}
