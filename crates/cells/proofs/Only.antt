@@ -1,9 +1,12 @@
--- No second list of cells meets the promise of a public call. Assumes nothing.
+-- No second answer meets the promise of a public call. Assumes nothing.
 use mathlib.Core.Path.{_≡_, _∙_, sym}
 use mathlib.Core.List.{List}
 use Prim.Native.Nat.{ℕ, min}
 use lib.ListN.{length, getD}
 use Rattle.law.specs.Words.{table, over}
+
+pub lesser : (m n a b : ℕ) → a ≡ min m n → b ≡ min m n → a ≡ b
+lesser m n a b p q = p ∙ sym q
 
 pub clear : (cells a b : List ℕ) → a ≡ table (λ h. 0) (length cells) → b ≡ table (λ h. 0) (length cells) → a ≡ b
 clear cells a b p q = p ∙ sym q

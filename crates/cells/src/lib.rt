@@ -1,4 +1,4 @@
-// Lists of cells: cleared, and written from the front.
+// Lists of cells: counted, cleared, and written from the front.
 ghost use mathlib.Core.Path.{_≡_};
 ghost use Prim.Native.Nat.{min};
 ghost use lib.ListN.{length, getD};
@@ -15,7 +15,8 @@ pub fn clear(cells: &mut [u32])
     }
 }
 
-fn lesser(a: usize, b: usize) -> usize
+// The lesser of two counts.
+pub fn lesser(a: usize, b: usize) -> usize
     ensures { λ r. ⌜ r ≡ min a b ⌝ }
 {
     if a <= b { a } else { b }

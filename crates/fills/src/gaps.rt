@@ -1,13 +1,14 @@
 // The gaps of a line's two quantities. A state is 2 for a measured hour and 1 for a missing one; with any other the hour is stopped.
 ghost use mathlib.Core.Path.{_≡_};
 ghost use mathlib.Core.List.{reverse};
-ghost use Prim.Native.Nat.{_≤_, min};
+ghost use Prim.Native.Nat.{_≤_};
 ghost use lib.ListN.{length, take, drop};
 ghost use Rattle.law.specs.Words.{over};
 ghost use Rattle.rules.specs.Slots.{valids};
 ghost use Rattle.rules.specs.Fill.{fill, meanUp, same};
 ghost use Rattle.fills.specs.Gaps.{hoursInBoth, filledCells};
 ghost use Rattle.fills.specs.Parts.{row, Measured, Scanned, spot, patched};
+use cells::lesser;
 
 // What a scan from an hour on finds: the missing hours up to the next valid one, and that hour, or the number of hours.
 struct Gap {
@@ -137,17 +138,11 @@ fn fill_both(states: &[u8], concentrations: &mut [u32], flows: &mut [u32])
     walk(states, concentrations, flows, &cs[0..count], &ls[0..count]);
 }
 
-fn smaller(a: usize, b: usize) -> usize
-    ensures { λ r. ⌜ r ≡ min a b ⌝ }
-{
-    if a <= b { a } else { b }
-}
-
 // Fills the missing hours of both quantities: of the hours that have a state and both cells, the first 2,208.
 pub fn fill_gaps(states: &[u8], concentrations: &mut [u32], flows: &mut [u32])
     ensures { λ _. ⌜ (now (concentrations .exit) ≡ filledCells (take (hoursInBoth (now (states .entry)) (now (concentrations .entry)) (now (flows .entry))) (now (states .entry))) (now (concentrations .entry))) × (now (flows .exit) ≡ filledCells (take (hoursInBoth (now (states .entry)) (now (concentrations .entry)) (now (flows .entry))) (now (states .entry))) (now (flows .entry))) ⌝ }
 {
-    let both = smaller(smaller(states.len(), concentrations.len()), flows.len());
-    let hours = smaller(both, 2208);
+    let both = lesser(lesser(states.len(), concentrations.len()), flows.len());
+    let hours = lesser(both, 2208);
     fill_both(&states[0..hours], concentrations, flows);
 }

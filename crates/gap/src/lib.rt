@@ -1,16 +1,11 @@
 // The fill of one gap by the valid values of one quantity, in the order of the hours: `b` of them stand before the gap, and the rest after it.
 ghost use mathlib.Core.Path.{_≡_};
 ghost use mathlib.Core.List.{reverse};
-ghost use Prim.Native.Nat.{_≤_, min};
+ghost use Prim.Native.Nat.{_≤_};
 ghost use lib.ListN.{length, take, drop};
 ghost use Rattle.law.specs.Words.{largest};
 ghost use Rattle.rules.specs.Fill.{short, long, fill, meanUp, same};
-
-fn smaller(a: usize, b: usize) -> usize
-    ensures { λ r. ⌜ r ≡ min a b ⌝ }
-{
-    if a <= b { a } else { b }
-}
+use cells::lesser;
 
 fn largest_of(s: &[u32]) -> u32
     ensures { λ r. ⌜ r ≡ largest (now (s .entry)) ⌝ }
@@ -59,10 +54,10 @@ fn long_fill(valid: &[u32], b: usize) -> u32
     ensures { λ r. ⌜ r ≡ long meanUp same (reverse (take b (now (valid .entry)))) (drop b (now (valid .entry))) ⌝ }
 {
     if 0 < b {
-        let start = b - smaller(b, 720);
+        let start = b - lesser(b, 720);
         largest_of(&valid[start..b])
     } else {
-        let end = smaller(valid.len(), 720);
+        let end = lesser(valid.len(), 720);
         largest_of(&valid[0..end])
     }
 }
@@ -72,7 +67,7 @@ pub fn fill_of(gap: usize, valid: &[u32], b: usize) -> u32
     ensures { λ r. ⌜ r ≡ fill meanUp same gap (reverse (take b (now (valid .entry)))) (drop b (now (valid .entry))) ⌝ }
 {
     let n = valid.len();
-    let before = smaller(n, b);
+    let before = lesser(n, b);
     if gap <= 24 {
         short_fill(valid, before)
     } else {

@@ -9,8 +9,8 @@ use borrow.Author.Needs.{needs}
 use Rattle.gap.proofs.fill_of.Statement.{statement}
 use Rattle.gap.proofs.fill_of.Tie as tie
 
-smaller-requires : tie.Need-smaller-requires
-smaller-requires c κs = search needs
+lesser-requires : tie.Need-lesser-requires
+lesser-requires c κs = search needs
 
 short-fill-requires : tie.Need-short-fill-requires
 short-fill-requires c κs = search needs
@@ -23,14 +23,14 @@ unfolding fill
 returns c =
     let n = c .before .before in
     let few : n .before .before .args .gap ≤ 24 = omega arith in
-    pick-le _ _ _ _ _ few (c .short-fill .ensures ∙ parted (short meanUp same) _ _ _ (n .smaller .ensures))
+    pick-le _ _ _ _ _ few (c .short-fill .ensures ∙ parted (short meanUp same) _ _ _ (n .lesser .ensures))
 
 returns-2 : tie.Need-returns-2
 unfolding fill
 returns-2 c =
     let n = c .before .before in
     let more : 24 < n .before .before .args .gap = omega arith in
-    pick-not-le _ _ _ _ _ more (c .long-fill .ensures ∙ parted (long meanUp same) _ _ _ (n .smaller .ensures))
+    pick-not-le _ _ _ _ _ more (c .long-fill .ensures ∙ parted (long meanUp same) _ _ _ (n .lesser .ensures))
 
 pub fill-of-spec : {M : Type 1} → statement M
-fill-of-spec = tie.close (tie.spec smaller-requires short-fill-requires long-fill-requires returns returns-2)
+fill-of-spec = tie.close (tie.spec lesser-requires short-fill-requires long-fill-requires returns returns-2)

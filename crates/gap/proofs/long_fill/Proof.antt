@@ -13,8 +13,8 @@ use borrow.Author.Needs.{needs}
 use Rattle.gap.proofs.long_fill.Statement.{statement}
 use Rattle.gap.proofs.long_fill.Tie as tie
 
-smaller-requires : tie.Need-smaller-requires
-smaller-requires c κs = search needs
+lesser-requires : tie.Need-lesser-requires
+lesser-requires c κs = search needs
 
 sub-start : tie.Need-sub-start
 sub-start c = search needs
@@ -34,8 +34,8 @@ part-largest-of-end c = search needs
 largest-of-requires : tie.Need-largest-of-requires
 largest-of-requires c κs = search needs
 
-smaller-requires-2 : tie.Need-smaller-requires-2
-smaller-requires-2 c κs = search needs
+lesser-requires-2 : tie.Need-lesser-requires-2
+lesser-requires-2 c κs = search needs
 
 sub-largest-of-2 : tie.Need-sub-largest-of-2
 sub-largest-of-2 c = search needs
@@ -58,7 +58,7 @@ returns c =
     let fits = n .before .before .before .pre in
     let e = last-before (a .b) v (omega arith) fits in
     c .largest-of .ensures
-    ∙ largest-before 720 (a .b) (n .smaller .result) v fits (n .smaller .ensures)
+    ∙ largest-before 720 (a .b) (n .lesser .result) v fits (n .lesser .ensures)
     ∙ ap (λ (t : List ℕ). largest (take 720 t)) e
     ∙ sym (ap (λ (t : List ℕ). long meanUp same t (drop (a .b) v)) e)
 
@@ -70,7 +70,7 @@ returns-2 c =
     let v = now (a .valid) in
     let none : 0 ≡ a .b = omega arith in
     c .largest-of2 .ensures
-    ∙ ap (λ (k : ℕ). largest (take k v)) (sub-zero (n .smaller2 .result) ∙ n .smaller2 .ensures)
+    ∙ ap (λ (k : ℕ). largest (take k v)) (sub-zero (n .lesser2 .result) ∙ n .lesser2 .ensures)
     ∙ ap largest (take-few 720 v)
     ∙ ap (λ (k : ℕ). long meanUp same (reverse (take k v)) (drop k v)) none
 
@@ -78,14 +78,14 @@ pub long-fill-spec : {M : Type 1} → statement M
 long-fill-spec =
     tie.close
     (tie.spec
-    smaller-requires
+    lesser-requires
     sub-start
     mul-largest-of
     sub-largest-of
     part-largest-of-start
     part-largest-of-end
     largest-of-requires
-    smaller-requires-2
+    lesser-requires-2
     sub-largest-of-2
     part-largest-of-start-2
     part-largest-of-end-2

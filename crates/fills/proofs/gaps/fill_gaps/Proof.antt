@@ -9,14 +9,14 @@ use borrow.Author.Needs.{needs}
 use Rattle.fills.proofs.gaps.fill_gaps.Statement.{statement}
 use Rattle.fills.proofs.gaps.fill_gaps.Tie as tie
 
-smaller-requires : tie.Need-smaller-requires
-smaller-requires c κs = search needs
+lesser-requires : tie.Need-lesser-requires
+lesser-requires c κs = search needs
 
-smaller-requires-2 : tie.Need-smaller-requires-2
-smaller-requires-2 c κs = search needs
+lesser-requires-2 : tie.Need-lesser-requires-2
+lesser-requires-2 c κs = search needs
 
-smaller-requires-3 : tie.Need-smaller-requires-3
-smaller-requires-3 c κs = search needs
+lesser-requires-3 : tie.Need-lesser-requires-3
+lesser-requires-3 c κs = search needs
 
 sub-fill-both : tie.Need-sub-fill-both
 sub-fill-both c = search needs
@@ -43,17 +43,17 @@ returns c =
     let n = f .before .before .before .before in
     let a = n .before .before .before .before .before .before .args in
     let s = now (a .states) in
-    let e : n .smaller3 .result - 0 ≡ hoursInBoth s (now (a .concentrations)) (now (a .flows)) =
-    sub-zero _ ∙ n .smaller3 .ensures ∙ ap (λ (k : ℕ). min k 2_208) (n .before .smaller2 .ensures ∙ ap (λ (k : ℕ). min k (length (now (a .flows)))) (n .before .before .smaller .ensures)) in
+    let e : n .lesser3 .result - 0 ≡ hoursInBoth s (now (a .concentrations)) (now (a .flows)) =
+    sub-zero _ ∙ n .lesser3 .ensures ∙ ap (λ (k : ℕ). min k 2_208) (n .before .lesser2 .ensures ∙ ap (λ (k : ℕ). min k (length (now (a .flows)))) (n .before .before .lesser .ensures)) in
     (f .fill-both .ensures .0 ∙ ap (λ (k : ℕ). filledCells (take k s) (now (a .concentrations))) e, f .fill-both .ensures .1 ∙ ap (λ (k : ℕ). filledCells (take k s) (now (a .flows))) e)
 
 pub fill-gaps-spec : {M : Type 1} → statement M
 fill-gaps-spec =
     tie.close
     (tie.spec
-    smaller-requires
-    smaller-requires-2
-    smaller-requires-3
+    lesser-requires
+    lesser-requires-2
+    lesser-requires-3
     sub-fill-both
     part-fill-both-start
     part-fill-both-end

@@ -8,17 +8,17 @@ use Rattle.walk.proofs.close.with_grams.Tie as tie
 add-n : tie.Need-add-n
 add-n c =
     let t = c .before .before in
-    omega (arith, share-most (t .args .pollutant) 1 (t .args .grams) (c .before .share .result) (c .before .share .ensures))
+    omega (arith, share-most (t .args .pollutant) _ (t .args .grams) (c .before .share .result) (c .before .share .ensures))
 
 add-n-2 : tie.Need-add-n-2
 add-n-2 c =
     let t = c .before .before .before .before in
-    omega (arith, t .pre, share-most (t .args .pollutant) 2 (t .args .grams) (c .before .share2 .result) (c .before .share2 .ensures))
+    omega (arith, t .pre, share-most (t .args .pollutant) _ (t .args .grams) (c .before .share2 .result) (c .before .share2 .ensures))
 
 add-n-3 : tie.Need-add-n-3
 add-n-3 c =
     let t = c .before .before .before .before .before .before in
-    omega (arith, t .pre, share-most (t .args .pollutant) 3 (t .args .grams) (c .before .share3 .result) (c .before .share3 .ensures))
+    omega (arith, t .pre, share-most (t .args .pollutant) _ (t .args .grams) (c .before .share3 .result) (c .before .share3 .ensures))
 
 returns : tie.Need-returns
 returns c = rw (c .before .before .before .before .before .share .ensures, c .before .before .before .share2 .ensures, c .before .share3 .ensures)
