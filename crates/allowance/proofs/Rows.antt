@@ -1,5 +1,5 @@
 -- DEMAND 3, at the rows that the account call leaves. Assumes nothing.
-use mathlib.Core.Path.{_≡_, refl, sym, ap, _∙_, subst}
+use mathlib.Core.Path.{_≡_, sym, ap, _∙_, subst}
 use mathlib.Core.List.{List, [], _++_}
 use Prim.Native.Nat.{ℕ, _+_, _*_, _<_}
 use native.Mathlib.Omega.{arith}
@@ -9,12 +9,12 @@ use Rattle.rules.specs.declared.Answer.{Answer}
 use Rattle.rules.specs.Lines.{Line}
 use Rattle.rules.specs.Grams.{grams}
 use Rattle.rules.specs.Row.{rowOf, rowsOf}
-use Rattle.rules.specs.Walk.{Outcome, Refused, Accepted, outcome}
+use Rattle.rules.specs.Walk.{Outcome, Refused, Accepted}
 use Rattle.rules.specs.Account.{acceptance}
-use Rattle.answers.specs.Answers.{IsRow, Stated}
+use Rattle.answers.specs.Answers.{IsRow}
 use Rattle.answers.proofs.Rows.{row-at}
 use Rattle.answers.proofs.Answers.{stated}
-use Rattle.allowance.specs.Allowance.{RowNear, EveryRowNear}
+use Rattle.allowance.specs.Allowance.{EveryRowNear}
 use Rattle.allowance.proofs.Near.{every-line-near}
 
 -- the lines of an outcome

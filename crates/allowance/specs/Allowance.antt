@@ -1,6 +1,6 @@
 -- "G the grams, c and l the rounded or filled values": how far the grams may lie from the exact figure, stated over demand 2's own definitions.
 use Prim.Native.Nat.{ℕ, _+_, _*_, _^_, _≤_, _<_}
-use mathlib.Core.List.{List, [], map, List·Memᴰ}
+use mathlib.Core.List.{List, [], List·Memᴰ}
 use mathlib.Core.Path.{_≡_}
 use lib.ListN.{length, take, drop, getD}
 use Rattle.law.specs.Words.{sumOf, apart}
@@ -12,7 +12,7 @@ use Rattle.rules.specs.Fill.{Values, filled}
 use Rattle.rules.specs.Tables.{coefficientsOf}
 use Rattle.rules.specs.Grams.{slots, surveyValues, perGram, fuelTop, fuelBottom, grams}
 use Rattle.rules.specs.declared.Answer.{Answer}
-use Rattle.rules.specs.Walk.{Outcome, Accepted, outcome}
+use Rattle.rules.specs.Walk.{Accepted, outcome}
 use Rattle.rules.specs.Account.{Promise}
 use Rattle.answers.specs.Answers.{IsRow}
 use Rattle.allowance.specs.Exact.{exactAutomatic, exactManual}

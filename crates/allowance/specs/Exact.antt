@@ -5,7 +5,7 @@ use Rattle.law.specs.Words.{sumOf}
 use Rattle.reading.specs.Reading.{reading, exact}
 use Rattle.rules.specs.declared.Pair.{Pair}
 use Rattle.rules.specs.declared.Survey.{Survey}
-use Rattle.rules.specs.Slots.{Slot, mapSlot, entries}
+use Rattle.rules.specs.Slots.{mapSlot, entries}
 use Rattle.rules.specs.Hours.{running}
 use Rattle.rules.specs.Lines.{Line, hours, surveyed}
 use Rattle.rules.specs.Fill.{Values, zeroes, fillBoth}

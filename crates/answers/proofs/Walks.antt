@@ -1,13 +1,13 @@
 -- Every file's outcome: a refusal has a number, and at most 48 lines are accepted. Assumes nothing.
-use mathlib.Core.Path.{_≡_, refl, ap, sym, _∙_, subst}
+use mathlib.Core.Path.{_≡_, refl, ap, _∙_, subst}
 use mathlib.Core.Bool.{Bool, true, false, not}
 use mathlib.Core.List.{List, [], _∷_}
-use Prim.Native.Nat.{ℕ, zero, suc, _≤_, _<_}
+use Prim.Native.Nat.{ℕ, _≤_, _<_}
 use native.Mathlib.Omega.{arith}
 use lib.ListN.{length}
 use lib.Dec.{leb, ltb, eqb}
 use borrow.Author.Tests.{ltb-true, eqb-true, eqb-false}
-use Rattle.law.specs.Words.{need, pick}
+use Rattle.law.specs.Words.{need}
 use Rattle.law.proofs.Tests.{pick-case}
 use Rattle.rules.specs.declared.Head.{Head}
 use Rattle.rules.specs.declared.View.{View}

@@ -1,12 +1,12 @@
 -- Laws of judging: what refuses a record as the code holds it refuses the record, and what a record that is not refused has. Assumes nothing.
 use Prim.Native.Nat.{ℕ, _+_, _*_, _^_, _<_, _≤_}
-use mathlib.Core.Bool.{Bool, true, false, not, _&&_}
+use mathlib.Core.Bool.{Bool, true, false, not}
 use mathlib.Core.List.{List}
 use mathlib.Core.Path.{_≡_, refl, sym, ap, subst, _∙_}
 use native.Mathlib.Omega.{arith}
 use lib.Dec.{leb, ltb, eqb}
-use borrow.Author.Tests.{leb-true, ltb-true, eqb-true, eqb-false}
-use Rattle.law.proofs.Tests.{need-eq, need-not-eq, pick-not-le, both-true}
+use borrow.Author.Tests.{leb-true, ltb-true, eqb-true}
+use Rattle.law.proofs.Tests.{need-eq, need-not-eq, pick-not-le}
 use Rattle.rules.specs.declared.Head.{Head}
 use Rattle.rules.specs.declared.Survey.{Survey}
 use Rattle.rules.specs.declared.Batch.{Batch}

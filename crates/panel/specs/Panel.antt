@@ -1,6 +1,6 @@
 -- "The panel keeps a running total as an f64, with its hours and missing hours, and each hour hands the next state back"; 12, 11, 4, 10.
 use Prim.Native.Nat.{ℕ, _+_, _*_, _/_, _%_, _^_}
-use mathlib.Core.Bool.{Bool, true, false, not, _&&_}
+use mathlib.Core.Bool.{Bool, false, not, _&&_}
 use lib.Dec.{leb, ltb, eqb}
 use lib.IntN.{pos}
 use lib.Ieee.{Float, nan, inf, fin, up, down, binary64, ofInt}

@@ -2,10 +2,10 @@
 use mathlib.Core.Path.{_≡_, refl, _∙_, sym, ap, ap₂, subst}
 use mathlib.Core.Bool.{Bool, true, false}
 use mathlib.Core.List.{List, [], _∷_, _++_, map, append-assoc}
-use Prim.Native.Nat.{ℕ, suc, _+_, _-_, _*_, _<_, _≤_}
+use Prim.Native.Nat.{ℕ, suc, _+_, _*_, _<_, _≤_}
 use native.Mathlib.Omega.{arith}
 use native.Mathlib.Decide.{decLt}
-use lib.ListN.{length, take, drop, getD, length-map, List·getD-eq-default}
+use lib.ListN.{length, drop, getD, length-map, List·getD-eq-default}
 use lib.Seq.{take-at, drop-at, drop-drop}
 use lib.Dec.{eqb}
 use borrow.Author.Tests.{eqb-true, eqb-false}
@@ -15,7 +15,7 @@ use Rattle.rules.specs.declared.Head.{Head}
 use Rattle.rules.specs.declared.View.{View}
 use Rattle.rules.specs.declared.Coefficients.the-variants.{NoEntry}
 use Rattle.rules.specs.Hours.{running, lacking, runMasks, measuredMasks, firstMissing}
-use Rattle.rules.specs.Lines.{Line, surveyed, surveys, fuel}
+use Rattle.rules.specs.Lines.{Line, surveys, fuel}
 use Rattle.rules.specs.Method.{methodOf, method}
 use Rattle.rules.specs.Tables.{coefficientsOf}
 use Rattle.rules.specs.Fill.{Values, cs, ls, filled, unfilled}

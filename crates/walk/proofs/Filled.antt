@@ -1,12 +1,12 @@
 -- The end of a line: what the cells hold then, filled or not, and what is weighed. Assumes nothing.
-use mathlib.Core.Path.{_≡_, refl, _∙_, sym, ap, ap₂, subst}
+use mathlib.Core.Path.{_≡_, refl, _∙_, sym, ap, ap₂}
 use mathlib.Core.List.{List, [], _∷_, _++_, map, reverse}
-use Prim.Native.Nat.{ℕ, zero, suc, _+_, _-_, _*_, _/_, _%_, _<_, _≤_}
+use Prim.Native.Nat.{ℕ, zero, suc, _+_, _-_, _*_, _<_, _≤_}
 use native.Mathlib.Omega.{arith}
 use lib.ListN.{length, length-append, take, drop, getD, replicate, length-take, length-drop, length-map, length-replicate, take-append-drop, getD-replicate, List·getD-map}
 use lib.Seq.{getD-take, getD-drop, ext-getD}
 use lib.Dec.{eqb}
-use Rattle.law.specs.Words.{pick, sumOf, table, largest}
+use Rattle.law.specs.Words.{pick, table}
 use Rattle.law.proofs.Tests.{pick-case}
 use Rattle.law.proofs.Tables.{table-length, table-at, table-is}
 use Rattle.rules.specs.declared.Pair.{Pair}
@@ -15,7 +15,7 @@ use Rattle.rules.specs.Slots.{Slot, valid, missing, stopped, mapSlot, entry, en
 use Rattle.rules.specs.Hours.{slotsOf, runMasks, measuredMasks}
 use Rattle.rules.specs.Lines.{Line, surveyAt, replaced, replacedFrom, hours}
 use Rattle.rules.specs.Fill.{Values, zeroes, cs, ls, fill, meanUp, same, filled, unfilled}
-use Rattle.rules.specs.Grams.{valuesOf, slots, hourly, amount}
+use Rattle.rules.specs.Grams.{valuesOf, slots, hourly}
 use Rattle.rules.specs.Method.{method}
 use Rattle.rules.specs.Row.{cells, held}
 use Rattle.hours.specs.States.{stateAt}
@@ -23,8 +23,8 @@ use Rattle.hours.proofs.Days.{length-slots}
 use Rattle.hours.proofs.Laws.{stateIn, slotIn, state-slot}
 use Rattle.fills.specs.Gaps.{slotAt, hoursIn, slotsIn, filledCells}
 use Rattle.fills.proofs.Entries.{entries-length, line-at}
-use Rattle.fills.proofs.Filled.{filled-length, filled-line, filled-rest}
-use Rattle.fills.proofs.States.{hours-all, slots-length}
+use Rattle.fills.proofs.Filled.{filled-line, filled-rest}
+use Rattle.fills.proofs.States.{hours-all}
 use Rattle.fills.proofs.Alone.{cs-alone, ls-alone}
 use Rattle.walk.specs.Books.{plain, valuesAt}
 use Rattle.walk.proofs.Hours.{past-zero}

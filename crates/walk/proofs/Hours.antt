@@ -2,7 +2,7 @@
 use mathlib.Core.Path.{_≡_, refl, _∙_, sym, ap}
 use mathlib.Core.Bool.{Bool, true, false, _||_, false≢true, true≢false}
 use mathlib.Core.List.{List, [], _∷_, _++_}
-use Prim.Native.Nat.{ℕ, _+_, _-_, _*_, _/_, _%_, _<_, _≤_}
+use Prim.Native.Nat.{ℕ, _+_, _*_, _<_, _≤_}
 use native.Mathlib.Omega.{arith}
 use lib.ListN.{length, getD, List·getD-append}
 use lib.Seq.{getD-append-add}
@@ -16,14 +16,14 @@ use Rattle.rules.specs.declared.Survey.{Survey}
 use Rattle.rules.specs.declared.Batch.{Batch}
 use Rattle.rules.specs.Records.{Day}
 use Rattle.rules.specs.Slots.{Slot, valid, missing, stopped}
-use Rattle.rules.specs.Hours.{bit, slotOf, slotsOf, runMasks, measuredMasks, runsAt}
+use Rattle.rules.specs.Hours.{slotOf, slotsOf, runMasks, measuredMasks, runsAt}
 use Rattle.rules.specs.Lines.{Line, surveyAt, replaced, hasSurvey}
 use Rattle.rules.specs.Walk.{begun, withDay, withEnforcement, withPlant, withBatch}
-use Rattle.rules.specs.Fill.{Values, zeroes}
+use Rattle.rules.specs.Fill.{zeroes}
 use Rattle.rules.specs.Grams.{valuesOf}
 use Rattle.hours.specs.States.{stateOf, stateAt}
 use Rattle.hours.proofs.Days.{length-slots, slot-past}
-use Rattle.hours.proofs.Laws.{slotIn, stateIs, pairIs, slot-state, slot-valid}
+use Rattle.hours.proofs.Laws.{slotIn, pairIs, slot-state, slot-valid}
 use Rattle.walk.specs.Books.{plain, valuesAt}
 
 -- ---- past the days of a line nothing stands

@@ -2,7 +2,7 @@
 use mathlib.Core.Path.{_≡_, _∙_, ap}
 use mathlib.Core.Bool.{true, false}
 use mathlib.Core.List.{List, [], _++_}
-use Prim.Native.Nat.{ℕ, _+_, _-_, _*_, _<_, _≤_}
+use Prim.Native.Nat.{ℕ, _+_, _*_, _<_, _≤_}
 use native.Mathlib.Omega.{arith}
 use lib.ListN.{length, drop, length-replicate}
 use lib.Dec.{leb}
@@ -10,7 +10,7 @@ use borrow.Author.Tests.{le-leb, lt-leb}
 use Rattle.law.specs.Words.{need, over}
 use Rattle.law.proofs.Over.{over-all}
 use Rattle.rules.specs.declared.Answer.{Answer}
-use Rattle.rules.specs.Judge.{refuse, first}
+use Rattle.rules.specs.Judge.{refuse}
 use Rattle.rules.specs.Row.{cells}
 use Rattle.rules.specs.Account.{acceptance, rowsFit, workFits, answerFrom, answerOf, rowsFrom, rowsAfter, cellsFrom, workAfter, Promise}
 use Rattle.walk.specs.declared.turns.Tally.{Tally}

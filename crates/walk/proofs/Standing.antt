@@ -1,36 +1,34 @@
 -- The code's state stands for the lines after each record that is taken in. Assumes nothing.
 use mathlib.Core.Path.{_≡_, refl, _∙_, sym, ap, ap₂, subst}
 use mathlib.Core.Bool.{Bool, true, false}
-use mathlib.Core.List.{List, [], _∷_, _++_}
-use Prim.Native.Nat.{ℕ, suc, _+_, _-_, _*_, _<_, _≤_}
+use mathlib.Core.List.{List, []}
+use Prim.Native.Nat.{ℕ, _+_, _*_, _<_, _≤_}
 use native.Mathlib.Omega.{arith}
-use lib.ListN.{length, take, drop, getD, set, length-set, length-append, length-take, length-drop}
+use lib.ListN.{length, getD, set, length-set, length-append, length-take, length-drop}
 use lib.Dec.{eqb}
 use borrow.Author.Tests.{eqb-true, eqb-false}
-use Rattle.law.specs.Words.{pick, table, over}
+use Rattle.law.specs.Words.{pick, table}
 use Rattle.law.proofs.Tables.{table-length, table-at}
-use Rattle.law.proofs.Tests.{pick-case}
-use Rattle.reading.specs.Reading.{reading, concentration, flow, concentrationOf, flowOf}
+use Rattle.reading.specs.Reading.{flow}
 use Rattle.rules.specs.declared.Head.{Head}
-use Rattle.rules.specs.declared.Pair.{Pair}
 use Rattle.rules.specs.declared.Survey.{Survey}
 use Rattle.rules.specs.declared.Batch.{Batch}
 use Rattle.rules.specs.declared.View.{View}
 use Rattle.rules.specs.Records.{Day, dayOf}
-use Rattle.rules.specs.Slots.{Slot, valid, missing, stopped}
-use Rattle.rules.specs.Hours.{bit, pairAt, slotOf, runMasks, measuredMasks, runsAt}
-use Rattle.rules.specs.Lines.{Line, hasSurvey, surveyed, surveys, fuel}
+use Rattle.rules.specs.Slots.{valid, missing, stopped}
+use Rattle.rules.specs.Hours.{bit, pairAt, slotOf, measuredMasks, runsAt}
+use Rattle.rules.specs.Lines.{Line, hasSurvey, surveys, fuel}
 use Rattle.rules.specs.Fill.{Values, zeroes}
 use Rattle.rules.specs.Grams.{valuesOf}
 use Rattle.rules.specs.Judge.{fine, judgeHours}
-use Rattle.rules.specs.Walk.{Stand, Between, Inside, viewOf, begun, withDay, withEnforcement, withPlant, withBatch}
+use Rattle.rules.specs.Walk.{Between, Inside, viewOf, begun, withDay, withEnforcement, withPlant, withBatch}
 use Rattle.record.specs.Flat.{masksOf}
 use Rattle.day.specs.Day.{kept, concentrationAt, flowAt}
 use Rattle.day.proofs.Laws.{PairAccepted, day-accepted, concentration-blank, flow-blank, concentration-most, flow-most}
 use Rattle.walk.specs.declared.books.Sums.{Sums}
 use Rattle.walk.specs.declared.take.Taken.{Taken}
-use Rattle.walk.specs.Views.{afterHead, afterDay, afterEnforcement, afterPlant, afterBatch, openedSums, withSurvey, withFuel}
-use Rattle.walk.specs.Books.{patched, plain, valuesAt, flagAt, LineBooks, Kept}
+use Rattle.walk.specs.Views.{afterHead, afterDay, afterEnforcement, afterPlant, afterBatch, withSurvey}
+use Rattle.walk.specs.Books.{patched, plain, flagAt, LineBooks, Kept}
 use Rattle.walk.proofs.Cleared.{cleared-all}
 use Rattle.walk.specs.Taking.{HeadTaken, DayTaken, EnforcementTaken, PlantTaken, BatchTaken, surveyC, surveyL, replacedCell}
 use Rattle.walk.proofs.Views.{view-head, view-day, view-enforcement, view-plant, view-batch}

@@ -1,25 +1,23 @@
 -- The books of a line go on from record to record. Assumes nothing.
-use mathlib.Core.Path.{_≡_, refl, _∙_, sym, ap, ap₂, subst}
-use mathlib.Core.Bool.{Bool, true, false, _||_}
-use mathlib.Core.List.{List, [], _∷_, _++_, append-nil}
+use mathlib.Core.Path.{_≡_, refl, _∙_, sym, ap, subst}
+use mathlib.Core.Bool.{Bool, true, false}
+use mathlib.Core.List.{List, [], _∷_, _++_}
 use Prim.Native.Nat.{ℕ, suc, _+_, _-_, _*_, _<_, _≤_, max}
 use native.Mathlib.Numerals.{add-one}
 use native.Mathlib.Nat.{mul-le-mul, mul-le-mul-left, mul-add, mul-comm}
 use native.Mathlib.Omega.{arith}
 use native.Mathlib.Decide.{decLt}
-use lib.ListN.{length, take, drop, getD, set, length-append, length-set}
+use lib.ListN.{length, set, length-append}
 use lib.Seq.{take-suc-set, getD-set-other}
 use lib.Dec.{eqb}
 use borrow.Author.Tests.{eq-eqb, ne-eqb, eqb-true, eqb-false}
-use Rattle.law.specs.Words.{pick, sumOf, table, over, largest}
+use Rattle.law.specs.Words.{pick, sumOf, table, largest}
 use Rattle.law.proofs.Tables.{table-same, table-set, table-patch}
 use Rattle.rules.specs.declared.Head.{Head}
-use Rattle.rules.specs.declared.Pair.{Pair}
 use Rattle.rules.specs.declared.Survey.{Survey}
 use Rattle.rules.specs.declared.Batch.{Batch}
 use Rattle.rules.specs.Records.{Day}
-use Rattle.rules.specs.Slots.{Slot, valid, missing, stopped}
-use Rattle.rules.specs.Hours.{slotOf, slotsOf, runMasks, measuredMasks, runsAt}
+use Rattle.rules.specs.Hours.{slotOf, runMasks, measuredMasks, runsAt}
 use Rattle.rules.specs.Lines.{Line, hasSurvey, besides, surveyed, surveys, fuel}
 use Rattle.rules.specs.Fill.{Values, zeroes}
 use Rattle.rules.specs.Grams.{valuesOf, amount, surveyValues, sulphurOf}

@@ -1,10 +1,10 @@
 -- What each kind of record asks when it is taken in, and that the books then stand for the lines. Assumes nothing.
 use mathlib.Core.Path.{_≡_, refl, _∙_, sym, ap, subst, subst₂}
-use mathlib.Core.Bool.{Bool, true, false, true≢false, false≢true}
+use mathlib.Core.Bool.{Bool, true, false, true≢false}
 use mathlib.Core.List.{List, [], _∷_}
-use Prim.Native.Nat.{ℕ, zero, suc, _+_, _-_, _*_, _<_, _≤_}
+use Prim.Native.Nat.{ℕ, zero, suc, _+_, _*_, _<_, _≤_}
 use native.Mathlib.Omega.{arith}
-use lib.ListN.{length, take, drop}
+use lib.ListN.{length, take}
 use Rattle.rules.specs.declared.Head.{Head}
 use Rattle.rules.specs.declared.Survey.{Survey}
 use Rattle.rules.specs.declared.Batch.{Batch}
@@ -12,7 +12,7 @@ use Rattle.rules.specs.declared.View.{View}
 use Rattle.rules.specs.declared.Coefficients.{Coefficients}
 use Rattle.rules.specs.declared.Coefficients.the-variants.{Balance, Oxides, Dust, NoEntry}
 use Rattle.rules.specs.Grams.{sulphurOf}
-use Rattle.rules.specs.Records.{Day, dayOf, recordIn, IsDay}
+use Rattle.rules.specs.Records.{Day, dayOf, recordIn}
 use Rattle.rules.specs.Hours.{runMasks, measuredMasks, runsAt, firstMissing, running, lacking}
 use Rattle.rules.specs.Lines.{Line, surveys, fuel}
 use Rattle.rules.specs.Method.{isAutomatic, isManual, methodOf, method}
@@ -31,7 +31,6 @@ use Rattle.record.specs.declared.Record.the-variants.{Bad, OfHead, OfDay, OfEnf
 use Rattle.record.specs.Flat.{flat, masksOf}
 use Rattle.record.proofs.Laws.{record-case, day-in}
 use Rattle.day.proofs.Laws.{PairAccepted}
-use Rattle.judge.specs.Flat.{judgeFlat}
 use Rattle.judge.proofs.Laws.{SurveyOk, EndOk, head-ok, day-ok, enforcement-ok, plant-ok, batch-ok, end-ok, bad-refused}
 use Rattle.hours.proofs.Laws.{running-period, missing-period}
 use Rattle.walk.specs.declared.books.Sums.{Sums}

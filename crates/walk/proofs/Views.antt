@@ -1,17 +1,14 @@
 -- The view after a record is the view of where the walk then stands. Assumes nothing.
-use mathlib.Core.Path.{_≡_, refl, sym, ap, ap₂, _∙_}
+use mathlib.Core.Path.{_≡_, refl, ap}
 use mathlib.Core.Bool.{false}
 use mathlib.Core.List.{List, [], _∷_}
 use Prim.Native.Nat.{ℕ, _+_}
 use native.Mathlib.Numerals.{add-one}
-use native.Mathlib.Omega.{arith}
 use lib.ListN.{length}
 use Rattle.law.specs.Words.{sumOf}
 use Rattle.rules.specs.declared.Head.{Head}
 use Rattle.rules.specs.declared.Survey.{Survey}
-use Rattle.rules.specs.declared.Surveys.{Surveys}
 use Rattle.rules.specs.declared.Batch.{Batch}
-use Rattle.rules.specs.declared.View.{View}
 use Rattle.rules.specs.Records.{Day}
 use Rattle.rules.specs.Hours.{running, lacking}
 use Rattle.rules.specs.Lines.{Line, fuel}

@@ -1,6 +1,6 @@
 -- What the functions that close a line promise each other.
 use Prim.Native.Nat.{ℕ, _+_, _*_, _≤_}
-use mathlib.Core.List.{List, [], _∷_}
+use mathlib.Core.List.{List}
 use mathlib.Core.Path.{_≡_}
 use lib.ListN.{take, getD}
 use lib.Dec.{eqb}

@@ -1,8 +1,8 @@
 -- What the walk and its steps promise each other.
 use Prim.Native.Nat.{ℕ, _+_, _*_, _<_, _≤_}
-use mathlib.Core.List.{List, [], _++_}
+use mathlib.Core.List.{List, _++_}
 use mathlib.Core.Path.{_≡_}
-use lib.ListN.{length, take, drop}
+use lib.ListN.{length, drop}
 use Rattle.rules.specs.declared.Fault.{Fault}
 use Rattle.rules.specs.declared.View.{View}
 use Rattle.rules.specs.Records.{IsHead, IsDay, IsEnforcement, IsPlant, IsBatch, IsEnd, dayOf, recordIn, recordsFrom}

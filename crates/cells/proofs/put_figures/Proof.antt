@@ -1,5 +1,5 @@
 -- `cells::put_figures` meets its contract: the figures are written from the front. Assumes nothing.
-use mathlib.Core.Path.{refl, _≡_, _∙_}
+use mathlib.Core.Path.{refl, _≡_}
 use Prim.Native.Nat.{_-_, _≤_, min}
 use native.Mathlib.Omega.{arith}
 use lib.ListN.{length, getD}
