@@ -19,7 +19,7 @@ use Rattle.rules.specs.Row.{rowOf, rowsOf, totalOf, held, cells, concentrationC
 use Rattle.rules.specs.Judge.{refuse, fine, first, key, placeHead, rangeHead, placeDay, straysOf, rangeMasks, accepted, judgePair, judgeBlank, judgeHour, judgeHours, judgeDay, surveysLeft, placeEnforcement, placePlant, judgeStopped, judgeSurvey, placeBatch, rangeBatch, judgeEntry, placeEnd, judgeFuel, judge}
 use Rattle.rules.specs.Walk.{floorOf, surveysOf, viewOf, runsOf, begun, withDay, withEnforcement, withPlant, withBatch, takenBetween, takenInside, taken, ended, faultOf, walk, outcome}
 use Rattle.rules.specs.Account.{refusal, acceptance, rowsFit, workFits, answerFrom, answerOf, rowsFrom, rowsAfter, cellsFrom, workAfter}
-use Rattle.text.specs.Line.{decimalFrom, decimal, spaced, refusedLine}
+use Rattle.text.specs.Line.{decimalFrom, decimal, spaced, refusedLine, totalsLine}
 use Rattle.printed.specs.Program.{rowLines, totalLine, printedFrom, printed}
 
 -- "Head: stack 1, pollutant 2, required 1, furnace 1, coal 4, 300 MW, mark 1, one day. Day 0: run hours 0-3, measured 0, 1, 3 with 20, 30, 41 mg/m3 and
@@ -49,5 +49,5 @@ pub record ExampleAgrees : Type 0 where
   pub flows : workAfter flowCells example 7 2_208 2_209 (replicate 2_209 5) ≡ (1000000 ∷ 1000000 ∷ 1000001 ∷ 1000001 ∷ []) ++ replicate 2_204 0 ++ (5 ∷ [])
 
 pub example-agrees : ExampleAgrees
-unfolding example exampleText ofBits need pick table sumOf seek tally largest halvesUp apart u8 u16 u32 u64 reading allowed exact rounded capped roundedOf both figuresOf numberOf hourNumber headOf pairOf dayOf surveyOf batchOf bodyOf recordIn sizeOf upTo recordsFrom recordsOf run valids mapSlot entry entries bit pairAt slotOf slotsOf runningOf missingOf running lacking runMasks measuredMasks runsAt lacksAt firstMissing surveyAt replaced replacedFrom hours hasSurvey besides surveyed surveys fuel isAutomatic isManual methodOf method zeroes cs ls window short long fill fillBoth meanUp same filled unfilled at q k class tableA1 noClass classOf isPulverised isGrate grateDust dustEntry oxidesEntry balanceOf oxidesOf dustOf coefficientsOf valuesOf slots hourly amount automatic surveyValues manual sulphurOf fuelTop fuelBottom fuelGrams grams rowOf rowsOf totalOf held cells concentrationCells flowCells refuse fine first key placeHead rangeHead placeDay straysOf rangeMasks accepted judgePair judgeBlank judgeHour judgeHours judgeDay surveysLeft placeEnforcement placePlant judgeStopped judgeSurvey placeBatch rangeBatch judgeEntry placeEnd judgeFuel judge floorOf surveysOf viewOf runsOf begun withDay withEnforcement withPlant withBatch takenBetween takenInside taken ended faultOf walk outcome refusal acceptance rowsFit workFits answerFrom answerOf rowsFrom rowsAfter cellsFrom workAfter decimalFrom decimal spaced rowLines totalLine refusedLine printedFrom printed
+unfolding example exampleText ofBits need pick table sumOf seek tally largest halvesUp apart u8 u16 u32 u64 reading allowed exact rounded capped roundedOf both figuresOf numberOf hourNumber headOf pairOf dayOf surveyOf batchOf bodyOf recordIn sizeOf upTo recordsFrom recordsOf run valids mapSlot entry entries bit pairAt slotOf slotsOf runningOf missingOf running lacking runMasks measuredMasks runsAt lacksAt firstMissing surveyAt replaced replacedFrom hours hasSurvey besides surveyed surveys fuel isAutomatic isManual methodOf method zeroes cs ls window short long fill fillBoth meanUp same filled unfilled at q k class tableA1 noClass classOf isPulverised isGrate grateDust dustEntry oxidesEntry balanceOf oxidesOf dustOf coefficientsOf valuesOf slots hourly amount automatic surveyValues manual sulphurOf fuelTop fuelBottom fuelGrams grams rowOf rowsOf totalOf held cells concentrationCells flowCells refuse fine first key placeHead rangeHead placeDay straysOf rangeMasks accepted judgePair judgeBlank judgeHour judgeHours judgeDay surveysLeft placeEnforcement placePlant judgeStopped judgeSurvey placeBatch rangeBatch judgeEntry placeEnd judgeFuel judge floorOf surveysOf viewOf runsOf begun withDay withEnforcement withPlant withBatch takenBetween takenInside taken ended faultOf walk outcome refusal acceptance rowsFit workFits answerFrom answerOf rowsFrom rowsAfter cellsFrom workAfter decimalFrom decimal spaced rowLines totalLine refusedLine totalsLine printedFrom printed
 example-agrees = record { prints = refl; row = refl; concentrations = refl; flows = refl }

@@ -8,7 +8,7 @@ use Rattle.rules.specs.Judge.{refuse}
 use Rattle.rules.specs.Lines.{Line}
 use Rattle.rules.specs.Row.{rowOf, totalOf}
 use Rattle.rules.specs.Walk.{Outcome, Refused, Accepted, outcome}
-use Rattle.text.specs.Line.{spaced, refusedLine}
+use Rattle.text.specs.Line.{spaced, refusedLine, totalsLine}
 
 -- "it prints one line a row (fields as above)", of lines of which the newest stands first
 unfoldable pub rowLines : List Line → List ℕ
@@ -17,8 +17,7 @@ rowLines (x ∷ xs) = rowLines xs ++ spaced (rowOf x)
 
 -- "then totals for pollutants 1, 2, 3": "total A B C"
 unfoldable pub totalLine : List Line → List ℕ
-totalLine lines =
-    (116 ∷ 111 ∷ 116 ∷ 97 ∷ 108 ∷ 32 ∷ []) ++ spaced (totalOf 1 lines ∷ totalOf 2 lines ∷ totalOf 3 lines ∷ [])
+totalLine lines = totalsLine (totalOf 1 lines ∷ totalOf 2 lines ∷ totalOf 3 lines ∷ [])
 
 -- "a refused input prints only .."; an accepted one its rows and totals
 unfoldable pub printedFrom : Outcome → List ℕ

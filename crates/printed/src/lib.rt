@@ -5,9 +5,10 @@ ghost use Rattle.rules.specs.Walk.{outcome};
 ghost use Rattle.text.specs.Text.{Text};
 ghost use Rattle.printed.specs.Program.{printedFrom, printed};
 
-// The text of a file's answer.
-fn put_answer(file: &[u8], text: &mut [u8]) -> usize
+// The text of a file's answer, for a file of any length; 0 where the buffer could be too short.
+pub fn answer_text(file: &[u8], text: &mut [u8]) -> usize
     ensures { λ r. ⌜ Text (printedFrom (outcome (now (file .entry)))) (now (text .entry)) (now (text .exit)) r ⌝ }
+    ensures { λ r. ⌜ r ≤ length (now (text .exit)) ⌝ }
 {
     let mut rows = [0u64; 336];
     let mut concentrations = [0u32; 2208];
@@ -18,17 +19,6 @@ fn put_answer(file: &[u8], text: &mut [u8]) -> usize
     }
     let totals = [a.total1, a.total2, a.total3];
     text::stated_text(text, &rows, a.rows, &totals)
-}
-
-// The text of a file's answer, for a file of any length; 0 where the buffer could be too short, before the file is looked at.
-pub fn answer_text(file: &[u8], text: &mut [u8]) -> usize
-    ensures { λ r. ⌜ Text (printedFrom (outcome (now (file .entry)))) (now (text .entry)) (now (text .exit)) r ⌝ }
-    ensures { λ r. ⌜ r ≤ length (now (text .exit)) ⌝ }
-{
-    if text.len() < 8192 {
-        return 0;
-    }
-    put_answer(file, text)
 }
 
 // What the program prints for an input: 13 comes before the file is looked at.

@@ -6,7 +6,7 @@ use native.Mathlib.Omega.{arith}
 use lib.ListN.{length, take, drop, length-take, length-drop}
 use Rattle.law.proofs.Tests.{need-le, need-not-le}
 use Rattle.rules.specs.Judge.{refuse}
-use Rattle.text.specs.Line.{spaced, refusedLine}
+use Rattle.text.specs.Line.{spaced, refusedLine, totalsLine}
 use Rattle.text.specs.Text.{Wrote, rowsText, statedText, statedLines}
 use Rattle.text.proofs.Wrote.{wrote-on}
 
@@ -25,7 +25,7 @@ refused-wrote old text new end r number place p q = wrote-on old text new _ (spa
 
 pub stated-wrote : (old text next new rows totals : List ℕ) (n end at r : ℕ) → Wrote old 0 (rowsText rows n) text end
     → Wrote text end (116 ∷ 111 ∷ 116 ∷ 97 ∷ 108 ∷ 32 ∷ []) next at → Wrote next at (spaced totals) new r → Wrote old 0 (statedText rows n totals) new r
-unfolding statedText
+unfolding statedText totalsLine
 stated-wrote old text next new rows totals n end at r p q s =
     wrote-on old text new (rowsText rows n) _ 0 end r p (wrote-on text next new _ (spaced totals) end at r q s)
 

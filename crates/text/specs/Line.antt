@@ -1,4 +1,4 @@
--- What stands in a printed line, as bytes: numbers in decimal, and the line of a refusal.
+-- What stands in a printed line, as bytes: numbers in decimal, the line of a refusal, and that of the totals.
 use Prim.Native.Nat.{ℕ, zero, suc, _+_, _/_, _%_}
 use mathlib.Core.List.{List, [], _∷_, _++_}
 use lib.Dec.{ltb}
@@ -25,3 +25,7 @@ spaced (n ∷ m ∷ ns) = decimal n ++ (32 ∷ spaced (m ∷ ns))
 -- "refused N OFFSET"
 unfoldable pub refusedLine : Fault → List ℕ
 refusedLine f = (114 ∷ 101 ∷ 102 ∷ 117 ∷ 115 ∷ 101 ∷ 100 ∷ 32 ∷ []) ++ spaced (f .number ∷ f .place ∷ [])
+
+-- "total A B C"
+unfoldable pub totalsLine : List ℕ → List ℕ
+totalsLine totals = (116 ∷ 111 ∷ 116 ∷ 97 ∷ 108 ∷ 32 ∷ []) ++ spaced totals

@@ -1,11 +1,11 @@
 -- What the calls that write a text into a lent buffer promise.
 use Prim.Native.Nat.{ℕ, zero, suc, _+_, _*_}
-use mathlib.Core.List.{List, [], _∷_, _++_}
+use mathlib.Core.List.{List, [], _++_}
 use mathlib.Core.Path.{_≡_}
 use lib.ListN.{length, take, drop}
 use lib.Dec.{leb}
 use Rattle.law.specs.Words.{need}
-use Rattle.text.specs.Line.{spaced}
+use Rattle.text.specs.Line.{spaced, totalsLine}
 
 -- no text is longer than 8,192 bytes: into a shorter buffer nothing is written, and 0 bytes are counted; else exactly these bytes stand at its start, and
 -- the cells behind them are as they were
@@ -24,9 +24,9 @@ unfoldable pub rowsText : List ℕ → ℕ → List ℕ
 rowsText rows zero = []
 rowsText rows (suc n) = rowsText rows n ++ spaced (take 7 (drop (7 * n) rows))
 
--- the rows, then "total A B C"
+-- the rows, then the totals
 unfoldable pub statedText : List ℕ → ℕ → List ℕ → List ℕ
-statedText rows n totals = rowsText rows n ++ ((116 ∷ 111 ∷ 116 ∷ 97 ∷ 108 ∷ 32 ∷ []) ++ spaced totals)
+statedText rows n totals = rowsText rows n ++ totalsLine totals
 
 -- the same of at most 48 rows that are all there; of other rows there is no text
 unfoldable pub statedLines : List ℕ → ℕ → List ℕ → List ℕ
