@@ -17,7 +17,6 @@ use Rattle.rules.specs.declared.Coefficients.the-variants.{Balance, Oxides, Dus
 use Rattle.rules.specs.Records.{Day, Bad as NoRecord, IsHead, IsDay, IsEnforcement, IsPlant, IsBatch, IsEnd, dayOf, recordIn}
 use Rattle.rules.specs.Records as rules
 use Rattle.rules.specs.Hours.{runsAt}
-use Rattle.rules.specs.Method.{methodOf}
 use Rattle.rules.specs.Tables.{coefficientsOf}
 use Rattle.rules.specs.Judge.{refuse, fine, first, key, placeHead, rangeHead, placeDay, straysOf, rangeMasks, judgePair, judgeHours, judgeDay, surveysLeft, placeEnforcement, placePlant, judgeStopped, judgeSurvey, placeBatch, rangeBatch, judgeEntry, placeEnd, judgeFuel, judge}
 use Rattle.record.specs.declared.DayMasks.{DayMasks}
@@ -28,6 +27,7 @@ use Rattle.faults.proofs.Laws.{Stands, stands, first-first, first-refused, pass
 use Rattle.day.proofs.Hours.{pair-stands}
 use Rattle.day.proofs.Laws.{PairAccepted, pair-accepted}
 use Rattle.record.proofs.Laws.{day-in}
+use Rattle.method.specs.Open.{lineMethod}
 use Rattle.judge.specs.Flat.{judgeFlat}
 
 -- ---- a record as the code holds it
@@ -173,7 +173,7 @@ pub record BatchOk (v : View) (b : Batch) : Type 0 where
 pub record EndOk (v : View) : Type 0 where
   pub inside : v .inside ≡ true
   pub days-done : v .days ≡ v .head .days
-  pub by-fuel : 2 < methodOf (v .head) (v .enforcement .count + v .plant .count) (v .running) (v .missing) → (0 < v .batches) × (coefficientsOf (v .head) ≡ NoEntry → ⊥)
+  pub by-fuel : 2 < lineMethod v → (0 < v .batches) × (coefficientsOf (v .head) ≡ NoEntry → ⊥)
 
 turned-true : (t : Bool) → not t ≡ true → t ≡ false
 turned-true true e = cc
@@ -302,7 +302,7 @@ module _ (place : ℕ) (v : View) where
   unfolding judgeEntry refuse fine
   entry-ok entry e q = let z : _≡_ {A = ℕ} 7 0 = ap (λ (f : Fault). f .number) (sym (ap (judgeEntry place) q) ∙ e) in omega arith
 
-  fuel-ok : judgeFuel place v ≡ fine → 2 < methodOf (v .head) (v .enforcement .count + v .plant .count) (v .running) (v .missing) → (0 < v .batches) × (coefficientsOf (v .head) ≡ NoEntry → ⊥)
+  fuel-ok : judgeFuel place v ≡ fine → 2 < lineMethod v → (0 < v .batches) × (coefficientsOf (v .head) ≡ NoEntry → ⊥)
   unfolding judgeFuel
   fuel-ok e l =
       let a = passed 6 place (ltb 0 (v .batches)) _ refl (pick-not-le _ _ _ _ _ l refl ∙ e) in

@@ -23,14 +23,12 @@ fn judge_entry(place: usize, entry: Coefficients) -> Fault
 fn judge_fuel(place: usize, v: View) -> Fault
     ensures { λ f. ⌜ f ≡ judgeFuel place v ⌝ }
 {
-    let head = v.head;
-    let surveys = (v.enforcement.count as u64) + (v.plant.count as u64);
-    if method::method_of(head, surveys, v.running, v.missing) <= 2 {
+    if method::line_method(v) <= 2 {
         return FINE;
     }
     faults::first_of(
         refuse_unless(6, place, v.batches > 0),
-        judge_entry(place, tables::coefficients(head)),
+        judge_entry(place, tables::coefficients(v.head)),
     )
 }
 

@@ -12,17 +12,8 @@ use borrow.Author.Needs.{needs}
 use Rattle.judge.proofs.ends.judge_fuel.Statement.{statement}
 use Rattle.judge.proofs.ends.judge_fuel.Tie as tie
 
-cast-surveys : tie.Need-cast-surveys
-cast-surveys c = search needs
-
-cast-surveys-2 : tie.Need-cast-surveys-2
-cast-surveys-2 c = search needs
-
-add-surveys : tie.Need-add-surveys
-add-surveys c = search needs
-
-method-of-requires : tie.Need-method-of-requires
-method-of-requires c κs = search needs
+line-method-requires : tie.Need-line-method-requires
+line-method-requires c κs = search needs
 
 -- by the method as the rule has it
 module _ (m k : ℕ) (e : m ≡ k) where
@@ -34,7 +25,7 @@ module _ (m k : ℕ) (e : m ≡ k) where
 
 returns : tie.Need-returns
 unfolding judgeFuel fine
-returns c = low _ _ (c .before .method-of .ensures) _ _ (c .if1 .taken)
+returns c = low _ _ (c .before .line-method .ensures) _ _ (c .if1 .taken)
 
 refuse-unless-requires : tie.Need-refuse-unless-requires
 refuse-unless-requires c κs = search needs
@@ -51,7 +42,7 @@ first-of-requires c κs = search needs
 returns-2 : tie.Need-returns-2
 unfolding judgeFuel
 returns-2 c =
-    high _ _ (c .before .before .before .before .before .before .method-of .ensures) _ _ _ (c .before .before .before .before .before .if1 .left)
+    high _ _ (c .before .before .before .before .before .before .line-method .ensures) _ _ _ (c .before .before .before .before .before .if1 .left)
     (first-parts _ _ _ _ _ (c .first-of .ensures) (c .before .before .before .refuse-unless .ensures) (c .before .judge-entry .ensures ∙ ap (judgeEntry _) (c .before .before .coefficients .ensures))
     ∙ first-need _ _ _ _ refl)
 
@@ -59,10 +50,7 @@ pub judge-fuel-spec : {M : Type 1} → statement M
 judge-fuel-spec =
     tie.close
     (tie.spec
-    cast-surveys
-    cast-surveys-2
-    add-surveys
-    method-of-requires
+    line-method-requires
     returns
     refuse-unless-requires
     coefficients-requires
