@@ -8,16 +8,18 @@ use lib.ListN.{length, take, drop, getD, length-take}
 use lib.Seq.{take-at, getD-take}
 use lib.Dec.{eqb}
 use Rattle.law.specs.Words.{need, table, over, halvesUp, largest}
-use Rattle.law.proofs.Tests.{need-case}
+use Rattle.law.proofs.Tests.{need-case, pick-true, pick-false}
 use Rattle.law.proofs.Halves.{halves-within}
 use mathlib.Core.Bool.{Bool, true, false}
 use borrow.Author.Tests.{eqb-true, eqb-false}
 use Rattle.rules.specs.declared.View.{View}
-use Rattle.rules.specs.Hours.{firstMissing}
-use Rattle.hours.proofs.Whole.{no-missing-table}
-use Rattle.fills.proofs.Whole.{no-gap}
 use Rattle.walk.specs.declared.books.Sums.{Sums}
-use Rattle.walk.specs.Taking.{viewMethod, rowIn, EndReady, EndTaken}
+use Rattle.walk.specs.Taking.{EndReady, EndTaken}
+use Rattle.method.specs.Open.{lineMethod}
+use Rattle.period.specs.Period.{periodStates, isFilled, periodCells}
+use Rattle.line.specs.Line.{rowIn}
+use Rattle.period.proofs.Filled.{filled-on, filled-off}
+use Rattle.line.proofs.Halves.{grams-by}
 use Rattle.walk.specs.declared.take.Taken.{Taken}
 use Rattle.walk.specs.Books.{patched}
 use Rattle.walk.specs.Views.{afterEnd}
@@ -29,40 +31,11 @@ use Rattle.fills.proofs.Filled.{filled-both}
 use Rattle.fills.specs.Weights.{products}
 use Rattle.fills.proofs.States.{hours-all}
 use Rattle.fills.proofs.Bounds.{largest-each, filled-most, products-most}
-use Rattle.walk.specs.Closing.{periodStates, Limits, periodWeight, LineGrams, withGrams}
-
--- the states of the period, as the part of them that is lent
-states-part : (runs measured : List ℕ) (days : ℕ) (cells st : List ℕ) → days ≤ 92 → length cells ≡ 2_208
-    → st ≡ over (stateAt runs measured) (min (24 * days) (length cells)) cells → take (24 * days - 0) (drop 0 st) ≡ periodStates runs measured days
-states-part runs measured days cells st l e s =
-    let n : min (24 * days) (length cells) ≡ 24 * days = omega arith in
-    let z : 24 * days - 0 ≡ 24 * days = omega arith in
-    ap₂ take z (s ∙ ap (λ (k : ℕ). over (stateAt runs measured) k cells) n)
-    ∙ take-at (table (stateAt runs measured) (24 * days)) (drop (24 * days) cells) (24 * days) (table-length (stateAt runs measured) (24 * days))
-
-pub states-are : (runs measured : List ℕ) (days : ℕ) (cells st conc flow cs cs' : List ℕ) → days ≤ 92 → length cells ≡ 2_208 → length conc ≡ 2_208 → length flow ≡ 2_208
-    → st ≡ over (stateAt runs measured) (min (24 * days) (length cells)) cells
-    → cs' ≡ filledCells (take (hoursInBoth (take (24 * days - 0) (drop 0 st)) conc flow) (take (24 * days - 0) (drop 0 st))) cs
-    → cs' ≡ filledCells (periodStates runs measured days) cs
-states-are runs measured days cells st conc flow cs cs' l e c f s q =
-    let n = table-length (stateAt runs measured) (24 * days) in
-    q ∙ ap (λ (t : List ℕ). filledCells (take (hoursInBoth t conc flow) t) cs) (states-part runs measured days cells st l e s)
-    ∙ filled-both (periodStates runs measured days) conc flow cs (omega (arith, n, c)) (omega (arith, n, f)) (omega (arith, n))
+use Rattle.walk.specs.Closing.{Limits, periodWeight, lineGrams, LineGrams, withGrams}
 
 -- the parts of the cells that are weighed are those of the period
 pub parts-weigh : (conc flow : List ℕ) (days : ℕ) → products (take (24 * days - 0) (drop 0 conc)) (take (24 * days - 0) (drop 0 flow)) ≡ periodWeight days conc flow
 parts-weigh conc flow days = let z : 24 * days - 0 ≡ 24 * days = omega arith in ap (λ (k : ℕ). products (take k conc) (take k flow)) z
-
-pub halves-of : (n half : ℕ) → 0 < half → (n + half) / (2 * half) ≡ halvesUp n (2 * half)
-unfolding halvesUp
-halves-of n half p =
-    let e : 2 * n + 2 * half ≡ (n + half) * 2 = omega arith in
-    let f : 2 * (2 * half) ≡ 2 * half * 2 = omega arith in
-    sym (ap₂ _/_ e f ∙ mul-div-mul-right (n + half) (2 * half) (let z : 0 < 2 = omega arith in z))
-
--- a line that lacks no hour is as if filled
-pub whole-line : (runs measured : List ℕ) (days : ℕ) (cells : List ℕ) → firstMissing runs measured days ≡ 0 → cells ≡ filledCells (periodStates runs measured days) cells
-whole-line runs measured days cells w = sym (no-gap (periodStates runs measured days) cells (λ k l. no-missing-table runs measured days w k))
 
 module _ (runs measured : List ℕ) (days : ℕ) (few : days ≤ 92) where
   states-length : length (periodStates runs measured days) ≡ 24 * days
@@ -103,10 +76,10 @@ halves-most n d m l h =
     omega (arith, w .1)
 
 module _ (v : View) (s : Sums) (runs measured conc flow conc' flow' : List ℕ) (g : ℕ) (e : EndReady v s conc flow) where
-  abbrev lineGrams : ℕ → Type 0
-  lineGrams m = LineGrams m v s (periodStates runs measured (v .head .days)) conc flow conc' flow' g
+  abbrev figures : ℕ → Type 0
+  figures m = LineGrams m v s (periodStates runs measured (v .head .days)) conc flow conc' flow' g
 
-  small-by : (m : ℕ) → m ≡ viewMethod v → lineGrams m → (a b : Bool) → eqb m 1 ≡ a → eqb m 2 ≡ b → g ≤ 20_000_000_000_000
+  small-by : (m : ℕ) → m ≡ lineMethod v → figures m → (a b : Bool) → eqb m 1 ≡ a → eqb m 2 ≡ b → g ≤ 20_000_000_000_000
   small-by m q r true b t u =
       let k = r .automatic (eqb-true m 1 t) in
       let most = period-most runs measured (v .head .days) (e .days) conc flow conc' flow' (e .concLong) (e .flowLong) (e .limits) (k .concentrations) (k .flows) in
@@ -121,18 +94,62 @@ module _ (v : View) (s : Sums) (runs measured conc flow conc' flow' : List ℕ) 
       let k = r .fuel (eqb-false m 1 t) (eqb-false m 2 u) in
       omega (arith, k .2, e .fuel)
 
-  pub line-small : (m : ℕ) → m ≡ viewMethod v → lineGrams m → g ≤ 20_000_000_000_000
+  pub line-small : (m : ℕ) → m ≡ lineMethod v → figures m → g ≤ 20_000_000_000_000
   line-small m q r = small-by m q r (eqb m 1) (eqb m 2) refl refl
 
+  -- ---- filled under method 1, and else as they were
+  module _ (m : ℕ) (cells : List ℕ) where
+    filled-now : m ≡ 1 → periodCells (isFilled m (v .head .days) conc flow) (periodStates runs measured (v .head .days)) cells ≡ filledCells (periodStates runs measured (v .head .days)) cells
+    filled-now z = sym (pick-true (isFilled m (v .head .days) conc flow) (filledCells (periodStates runs measured (v .head .days)) cells) cells (filledCells (periodStates runs measured (v .head .days)) cells) (filled-on m (v .head .days) conc flow z (e .days) (e .concLong) (e .flowLong)) refl)
+
+    plain-now : (m ≡ 1 → ⊥) → periodCells (isFilled m (v .head .days) conc flow) (periodStates runs measured (v .head .days)) cells ≡ cells
+    plain-now z = sym (pick-false (isFilled m (v .head .days) conc flow) (filledCells (periodStates runs measured (v .head .days)) cells) cells cells (filled-off m (v .head .days) conc flow z) refl)
+
+  module _ (m : ℕ)
+      (ec : conc' ≡ periodCells (isFilled m (v .head .days) conc flow) (periodStates runs measured (v .head .days)) conc)
+      (el : flow' ≡ periodCells (isFilled m (v .head .days) conc flow) (periodStates runs measured (v .head .days)) flow)
+    where
+      pub weight-most : m ≡ 1 → periodWeight (v .head .days) conc' flow' ≤ 11_040_000_000_000_000
+      weight-most z = period-most runs measured (v .head .days) (e .days) conc flow conc' flow' (e .concLong) (e .flowLong) (e .limits) (ec ∙ filled-now m conc z) (el ∙ filled-now m flow z)
+
+      line-by : (a b : Bool) → eqb m 1 ≡ a → eqb m 2 ≡ b → m ≡ lineMethod v → g ≡ lineGrams m v s conc' flow' → figures m
+      line-by true b t u q r =
+          let z = eqb-true m 1 t in
+          let w = grams-by (periodWeight (v .head .days) conc' flow') 1 (omega arith) (omega (arith, weight-most z)) in
+          record {
+            automatic = λ _. record { concentrations = ec ∙ filled-now m conc z; flows = el ∙ filled-now m flow z; grams = r ∙ sym (pick-true _ _ _ _ t refl) ∙ sym w };
+            manual = λ i. absurd (omega arith);
+            fuel = λ n _. absurd (n z);
+          }
+      line-by false true t u q r =
+          let n = eqb-false m 1 t in
+          let z = eqb-true m 2 u in
+          let w = grams-by (s .weight * v .running) (s .surveyed) (e .some (sym q ∙ z)) (omega (arith, mul-le-mul {n₂ = 600_000_000_000_000} {m₂ = 2_208} (e .weight) (e .running))) in
+          record {
+            automatic = λ i. absurd (n i);
+            manual = λ _. (ec ∙ plain-now m conc n, el ∙ plain-now m flow n, r ∙ sym (pick-false _ _ _ _ t refl) ∙ sym (pick-true _ _ _ _ u refl) ∙ sym w);
+            fuel = λ _ i. absurd (i z);
+          }
+      line-by false false t u q r =
+          let n = eqb-false m 1 t in
+          record {
+            automatic = λ i. absurd (n i);
+            manual = λ i. absurd (eqb-false m 2 u i);
+            fuel = λ _ _. (ec ∙ plain-now m conc n, el ∙ plain-now m flow n, r ∙ sym (pick-false _ _ _ _ t refl) ∙ sym (pick-false _ _ _ _ u refl));
+          }
+
+      pub line-is : m ≡ lineMethod v → g ≡ lineGrams m v s conc' flow' → figures m
+      line-is q r = line-by (eqb m 1) (eqb m 2) refl refl q r
+
   -- ---- the end of a line, put together
-  pub end-taken : (out out' : List ℕ) (r : Taken) (m first : ℕ) → m ≡ viewMethod v → lineGrams m → out' ≡ patched (λ k. getD (rowIn v m g first) k 0) 7 (7 * v .lines) out
+  pub end-taken : (out out' : List ℕ) (r : Taken) (m first : ℕ) → m ≡ lineMethod v → figures m → out' ≡ patched (λ k. getD (rowIn v m g first) k 0) 7 (7 * v .lines) out
       → r .fault ≡ fine → r .view ≡ afterEnd v → r .sums ≡ withGrams s (v .head .pollutant) g
       → EndTaken v s (periodStates runs measured (v .head .days)) first conc flow out conc' flow' out' r
   end-taken out out' r m first q l o a b c =
       record {
         grams = g;
         small = line-small m q l;
-        figures = subst lineGrams q l;
+        figures = subst figures q l;
         faults = a;
         view = b;
         sums = c;

@@ -34,8 +34,11 @@ use Rattle.walk.specs.declared.books.Sums.{Sums}
 use Rattle.walk.specs.declared.take.Taken.{Taken}
 use Rattle.walk.specs.Views.{afterEnd}
 use Rattle.walk.specs.Books.{noRows, patched, valuesAt, Bounded, Kept}
-use Rattle.walk.specs.Closing.{gramsIn, periodStates, periodWeight, Limits, LineGrams}
-use Rattle.walk.specs.Taking.{viewMethod, rowIn, EndTaken}
+use Rattle.walk.specs.Closing.{gramsIn, periodWeight, Limits, LineGrams}
+use Rattle.walk.specs.Taking.{EndTaken}
+use Rattle.period.specs.Period.{periodStates}
+use Rattle.line.specs.Line.{rowIn}
+use Rattle.method.specs.Open.{lineMethod}
 use Rattle.walk.proofs.Views.{survey-count, view-end}
 use Rattle.walk.proofs.Filled.{unfilled-concentrations, unfilled-flows, filled-concentrations, filled-flows, held-length, held-cells}
 use Rattle.walk.proofs.Cleared.{cells-past}
@@ -43,7 +46,7 @@ use Rattle.walk.proofs.Closed.{share-most}
 use Rattle.walk.proofs.Standing.{patched-length}
 
 -- the method of the view is the line's
-pub method-is : (x : Line) (done : List Line) → viewMethod (viewOf (Inside x done)) ≡ method x
+pub method-is : (x : Line) (done : List Line) → lineMethod (viewOf (Inside x done)) ≡ method x
 unfolding viewOf method surveys
 method-is x done =
     ap₂ (λ (a b : ℕ). methodOf (x .head) (a + b) (running (x .days)) (lacking (x .days))) (survey-count (x .enforcement)) (survey-count (x .plant))
@@ -135,8 +138,8 @@ module _ (x : Line) (done : List Line) (v : View) (s : Sums) (runs measured flag
     unfolding viewOf
     v-fuel = ap (λ (w : View). w .fuel) (k .view)
 
-    v-method : viewMethod v ≡ method x
-    v-method = ap viewMethod (k .view) ∙ method-is x done
+    v-method : lineMethod v ≡ method x
+    v-method = ap lineMethod (k .view) ∙ method-is x done
 
     v-days : v .head .days ≡ length (x .days)
     v-days = ap (λ (h : Head). h .days) v-head ∙ sym all-days
@@ -144,7 +147,7 @@ module _ (x : Line) (done : List Line) (v : View) (s : Sums) (runs measured flag
     fuel-figure : fuelFigure (v .head) (v .fuel) (s .sulphur) (s .ash) ≡ fuelFigure (x .head) (fuel (x .batches)) (sulphurOf (x .batches)) (ashOf (x .batches))
     fuel-figure = rw (v-head, v-fuel, k .books .sulphurKept, k .books .ashKept)
 
-    module _ (conc' flow' : List ℕ) (g : ℕ) (l : LineGrams (viewMethod v) v s lineStates conc flow conc' flow' g) where
+    module _ (conc' flow' : List ℕ) (g : ℕ) (l : LineGrams (lineMethod v) v s lineStates conc flow conc' flow' g) where
       closes-by : (p q : Bool) → eqb (method x) 1 ≡ p → eqb (method x) 2 ≡ q → Closes x conc' flow' g
       unfolding automatic manual
       closes-by true q t u =
@@ -185,7 +188,7 @@ module _ (x : Line) (done : List Line) (v : View) (s : Sums) (runs measured flag
       shut : Closes x conc' flow' (e .grams)
       shut = closes conc' flow' (e .grams) (e .figures)
 
-      row-is : rowIn v (viewMethod v) (e .grams) lineFirst ≡ rowOf x
+      row-is : rowIn v (lineMethod v) (e .grams) lineFirst ≡ rowOf x
       unfolding rowOf
       row-is =
           row-same _ _ _ _ _ _ _ _ _ _ _ _ _ _ (ap (λ (h : Head). h .stack) v-head) (ap (λ (h : Head). h .pollutant) v-head)
@@ -194,7 +197,7 @@ module _ (x : Line) (done : List Line) (v : View) (s : Sums) (runs measured flag
       rows-now : out' ≡ (rowsOf done ++ rowOf x) ++ drop (7 * suc (length done)) noRows
       rows-now =
           let n : 7 * length done + 7 ≡ 7 * suc (length done) = omega arith in
-          let w : ℕ → ℕ = λ i. getD (rowIn v (viewMethod v) (e .grams) lineFirst) i 0 in
+          let w : ℕ → ℕ = λ i. getD (rowIn v (lineMethod v) (e .grams) lineFirst) i 0 in
           row-behind (7 * length done) (rowOf x) (rowsOf done) noRows out out' w (rows-long done) (k .rows) (seven _ _ _ _ _ _ _ ∙ row-is)
           (e .outNow ∙ ap (λ (i : ℕ). patched w 7 (7 * i) out) v-lines)
           ∙ ap (λ (i : ℕ). (rowsOf done ++ rowOf x) ++ drop i noRows) n

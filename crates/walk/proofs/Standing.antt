@@ -30,7 +30,8 @@ use Rattle.walk.specs.declared.take.Taken.{Taken}
 use Rattle.walk.specs.Views.{afterHead, afterDay, afterEnforcement, afterPlant, afterBatch, withSurvey}
 use Rattle.walk.specs.Books.{patched, plain, flagAt, LineBooks, Kept}
 use Rattle.walk.proofs.Cleared.{cleared-all}
-use Rattle.walk.specs.Taking.{HeadTaken, DayTaken, EnforcementTaken, PlantTaken, BatchTaken, surveyC, surveyL, replacedCell}
+use Rattle.walk.specs.Taking.{HeadTaken, DayTaken, EnforcementTaken, PlantTaken, BatchTaken, surveyC, surveyL}
+use Rattle.period.specs.Period.{replacedCell}
 use Rattle.walk.proofs.Views.{view-head, view-day, view-enforcement, view-plant, view-batch}
 use Rattle.walk.proofs.Steps.{begun-books, day-books, enforcement-books, beaten-books, plant-books, batch-books}
 

@@ -36,14 +36,16 @@ use Rattle.hours.proofs.Laws.{running-period, missing-period}
 use Rattle.walk.specs.declared.books.Sums.{Sums}
 use Rattle.walk.specs.declared.take.Taken.{Taken}
 use Rattle.walk.specs.Books.{Bounded, Kept}
-use Rattle.walk.specs.Taking.{HeadTaken, DayTaken, EnforcementTaken, PlantTaken, BatchTaken, viewMethod, EndReady, EndTaken}
+use Rattle.walk.specs.Taking.{HeadTaken, DayTaken, EnforcementTaken, PlantTaken, BatchTaken, EndReady, EndTaken}
 use Rattle.walk.specs.Walking.{whole, laterFault, Ready, Took}
 use Rattle.walk.proofs.Standing.{kept-head, kept-day, kept-enforcement, kept-plant, kept-batch}
 use Rattle.walk.proofs.Ending.{method-is, table-limits, in-range, kept-end}
 use Rattle.walk.proofs.Masks.{runs-kept, states-kept, first-kept}
 use Rattle.walk.proofs.Steps.{surveyed-most}
 use Rattle.rules.proofs.Method.{manual-surveyed}
-use Rattle.walk.specs.Closing.{gramsIn, periodStates}
+use Rattle.walk.specs.Closing.{gramsIn}
+use Rattle.period.specs.Period.{periodStates}
+use Rattle.method.specs.Open.{lineMethod}
 use Rattle.fuel.specs.Fuel.{fuelFigure, ashOf}
 use Rattle.fuel.specs.declared.FuelFigure.{FuelFigure}
 use Rattle.fuel.proofs.Figures.{line-figure, line-wanting, grams-fit}
@@ -245,7 +247,7 @@ module _ (at : ℕ) (bytes : List ℕ) (v : View) (s : Sums) (runs measured flag
   no-entry : (x : Line) (done : List Line) → v ≡ viewOf (Inside x done) → EndOk v → (method x ≡ 1 → ⊥) → (method x ≡ 2 → ⊥) → coefficientsOf (x .head) ≡ NoEntry → ⊥
   unfolding viewOf
   no-entry x done e ok n m q =
-      ok .by-fuel (subst (λ (i : ℕ). 2 < i) (sym (ap viewMethod e ∙ method-is x done)) (above-two (method x) (method-least x) n m)) .1
+      ok .by-fuel (subst (λ (i : ℕ). 2 < i) (sym (ap lineMethod e ∙ method-is x done)) (above-two (method x) (method-least x) n m)) .1
       (ap (λ (w : View). coefficientsOf (w .head)) e ∙ q)
 
   pub took-end : (stand : Stand) (r : Record) (conc' flow' out' : List ℕ) (u : Taken) → r ≡ OfEnd → Ready stand at bytes r v s runs measured flags conc flow out
@@ -336,7 +338,7 @@ module _ (at : ℕ) (bytes : List ℕ) (v : View) (s : Sums) (runs measured flag
         flowLong = k .kept .flowLong;
         limits = rw (y .concKept, y .flowKept) (table-limits x b);
         counts = omega (arith, ap (λ (w : View). w .enforcement .count) e, ap (λ (w : View). w .plant .count) e, survey-count (x .enforcement), survey-count (x .plant), surveys-are x, b .surveyCount);
-        some = λ m. subst (λ (i : ℕ). 0 < i) (sym (y .surveyedKept)) (manual-surveyed x (sym (ap viewMethod e ∙ method-is x done) ∙ m));
+        some = λ m. subst (λ (i : ℕ). 0 < i) (sym (y .surveyedKept)) (manual-surveyed x (sym (ap lineMethod e ∙ method-is x done) ∙ m));
         surveyed = w .0;
         weight = w .1;
         running = omega (arith, ap (λ (w : View). w .running) e, running-period (x .days), b .days, b .period);

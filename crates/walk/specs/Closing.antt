@@ -4,8 +4,8 @@ use mathlib.Core.List.{List}
 use mathlib.Core.Path.{_≡_}
 use lib.ListN.{take, getD}
 use lib.Dec.{eqb}
-use Rattle.law.specs.Words.{need, table, halvesUp}
-use Rattle.hours.specs.States.{stateAt}
+use Rattle.law.specs.Words.{need, pick, halvesUp}
+use Rattle.line.specs.Line.{gramsOf}
 use Rattle.fills.specs.Gaps.{filledCells}
 use Rattle.fills.specs.Weights.{products}
 use Rattle.rules.specs.declared.View.{View}
@@ -19,10 +19,6 @@ abbrev pub gramsIn : FuelFigure → ℕ
 gramsIn (Grams g) = g
 gramsIn NoEntry = 0
 gramsIn OutOfRange = 0
-
--- the states of a period's hours
-abbrev pub periodStates : List ℕ → List ℕ → ℕ → List ℕ
-periodStates runs measured days = table (stateAt runs measured) (24 * days)
 
 -- the weight of the period's cells
 abbrev pub periodWeight : ℕ → List ℕ → List ℕ → ℕ
@@ -39,7 +35,13 @@ pub record Limits (conc flow : List ℕ) : Type 0 where
   pub concentrations : (h : ℕ) → getD conc h 0 ≤ 1_000_000
   pub flows : (h : ℕ) → getD flow h 0 ≤ 5_000_000
 
--- the grams of a line by its method, and its cells
+-- the grams of a line by its method and its cells, which are filled under method 1
+abbrev pub lineGrams : ℕ → View → Sums → List ℕ → List ℕ → ℕ
+lineGrams method v s conc flow =
+    pick (eqb method 1) (gramsOf (periodWeight (v .head .days) conc flow) 1)
+    (pick (eqb method 2) (gramsOf (s .weight * v .running) (s .surveyed)) (gramsIn (fuelFigure (v .head) (v .fuel) (s .sulphur) (s .ash))))
+
+-- the same as what the lines above ask, beside the cells before and after
 pub record LineGrams (method : ℕ) (v : View) (s : Sums) (states conc flow conc' flow' : List ℕ) (r : ℕ) : Type 0 where
   pub automatic : method ≡ 1 → FilledLine states (v .head .days) conc flow conc' flow' r
   pub manual : method ≡ 2 → (conc' ≡ conc) × (flow' ≡ flow) × (r ≡ halvesUp (s .weight * v .running) (s .surveyed * 100_000))

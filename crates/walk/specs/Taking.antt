@@ -12,7 +12,9 @@ use Rattle.rules.specs.declared.Survey.{Survey}
 use Rattle.rules.specs.declared.Batch.{Batch}
 use Rattle.rules.specs.declared.View.{View}
 use Rattle.rules.specs.Records.{dayOf}
-use Rattle.rules.specs.Method.{methodOf}
+use Rattle.method.specs.Open.{lineMethod}
+use Rattle.period.specs.Period.{replacedCell}
+use Rattle.line.specs.Line.{rowIn}
 use Rattle.rules.specs.Judge.{fine, judgeHours}
 use Rattle.record.specs.declared.DayMasks.{DayMasks}
 use Rattle.day.specs.Day.{kept, concentrationAt, flowAt}
@@ -49,10 +51,6 @@ surveyC s = kept (concentrationOf (reading (s .pair .concentration)))
 abbrev pub surveyL : Survey → ℕ
 surveyL s = kept (flowOf (reading (s .pair .flow)))
 
--- the cell of hour h replaced, where the hour is measured
-abbrev pub replacedCell : Bool → ℕ → ℕ → List ℕ → List ℕ
-replacedCell measured h v cells = pick measured (set cells h v) cells
-
 -- a survey that stands, in a measured hour or another
 pub record SurveyTaken (view : View) (s : Sums) (t : Survey) (measured : Bool) (conc flow conc' flow' : List ℕ) (r : Taken) : Type 0 where
   pub faults : r .fault ≡ fine
@@ -84,14 +82,6 @@ pub record BatchTaken (v : View) (s : Sums) (b : Batch) (r : Taken) : Type 0 whe
   pub view : r .view ≡ afterBatch v (b .kg)
   pub sums : r .sums ≡ withFuel s b
 
--- the method of the open line
-abbrev pub viewMethod : View → ℕ
-viewMethod v = methodOf (v .head) (v .enforcement .count + v .plant .count) (v .running) (v .missing)
-
--- the row of the open line
-abbrev pub rowIn : View → ℕ → ℕ → ℕ → List ℕ
-rowIn v method grams first = v .head .stack ∷ v .head .pollutant ∷ method ∷ grams ∷ v .running ∷ v .missing ∷ first ∷ []
-
 -- what closing a line asks
 pub record EndReady (v : View) (s : Sums) (conc flow : List ℕ) : Type 0 where
   pub days : v .head .days ≤ 92
@@ -99,7 +89,7 @@ pub record EndReady (v : View) (s : Sums) (conc flow : List ℕ) : Type 0 where
   pub flowLong : length flow ≡ 2_208
   pub limits : Limits conc flow
   pub counts : v .enforcement .count + v .plant .count ≤ 120
-  pub some : viewMethod v ≡ 2 → 0 < s .surveyed
+  pub some : lineMethod v ≡ 2 → 0 < s .surveyed
   pub surveyed : s .surveyed ≤ 120
   pub weight : s .weight ≤ 600_000_000_000_000
   pub running : v .running ≤ 2_208
@@ -113,8 +103,8 @@ pub record EndReady (v : View) (s : Sums) (conc flow : List ℕ) : Type 0 where
 pub record EndTaken (v : View) (s : Sums) (states : List ℕ) (first : ℕ) (conc flow out conc' flow' out' : List ℕ) (r : Taken) : Type 0 where
   pub grams : ℕ
   pub small : grams ≤ 20_000_000_000_000
-  pub figures : LineGrams (viewMethod v) v s states conc flow conc' flow' grams
+  pub figures : LineGrams (lineMethod v) v s states conc flow conc' flow' grams
   pub faults : r .fault ≡ fine
   pub view : r .view ≡ afterEnd v
   pub sums : r .sums ≡ withGrams s (v .head .pollutant) grams
-  pub outNow : out' ≡ patched (λ k. getD (rowIn v (viewMethod v) grams first) k 0) 7 (7 * v .lines) out
+  pub outNow : out' ≡ patched (λ k. getD (rowIn v (lineMethod v) grams first) k 0) 7 (7 * v .lines) out

@@ -5,12 +5,8 @@ use rules::View;
 ghost use mathlib.Core.Path.{_≡_};
 ghost use Prim.Native.Nat.{_+_, _*_, _^_, _<_, _≤_};
 ghost use lib.ListN.{length};
-ghost use Rattle.law.specs.Words.{need, halvesUp};
-ghost use lib.Dec.{eqb};
-ghost use Rattle.rules.specs.Hours.{firstMissing};
-ghost use Rattle.fills.specs.Gaps.{filledCells};
 ghost use Rattle.fills.specs.Weights.{products};
-ghost use Rattle.walk.specs.Closing.{gramsIn, FilledLine, periodStates, periodWeight, Limits, LineGrams, withGrams};
+ghost use Rattle.walk.specs.Closing.{gramsIn, periodWeight, lineGrams, withGrams};
 
 fn grams_in(f: FuelFigure) -> u64
     ensures { λ r. ⌜ r ≡ gramsIn f ⌝ }
@@ -20,14 +16,6 @@ fn grams_in(f: FuelFigure) -> u64
         FuelFigure::NoEntry => 0,
         FuelFigure::OutOfRange => 0,
     }
-}
-
-// n over twice `half`, halves up: n and half are added, so that no n is doubled.
-fn halves_up(n: u64, half: u64) -> u64
-    requires { ⌜ (0 < half) × (n + half < 2 ^ 64) × (2 * half < 2 ^ 64) ⌝ }
-    ensures { λ r. ⌜ r ≡ halvesUp n (2 * half) ⌝ }
-{
-    (n + half) / (2 * half)
 }
 
 fn product(c: u32, l: u32) -> u64
@@ -50,82 +38,28 @@ fn weigh(conc: &[u32], flow: &[u32]) -> u64
     sum
 }
 
-// The grams of a period by its filled cells: the sum of c x l, over 100,000.
-fn period_grams(conc: &[u32], flow: &[u32], days: u8) -> u64
-    requires { ⌜ (24 * days ≤ length (now conc)) × (24 * days ≤ length (now flow)) × (periodWeight days (now conc) (now flow) ≤ 11_040_000_000_000_000) ⌝ }
-    ensures { λ r. ⌜ r ≡ halvesUp (periodWeight days (now (conc .entry)) (now (flow .entry))) 100_000 ⌝ }
+// The sum of c x l over the hours of the period.
+fn period_weight(conc: &[u32], flow: &[u32], days: u8) -> u64
+    requires { ⌜ (24 * days ≤ length (now conc)) × (24 * days ≤ length (now flow)) × (periodWeight days (now conc) (now flow) < 2 ^ 64) ⌝ }
+    ensures { λ r. ⌜ r ≡ periodWeight days (now (conc .entry)) (now (flow .entry)) ⌝ }
 {
     let n = 24 * (days as usize);
-    let weight = weigh(&conc[0..n], &flow[0..n]);
-    halves_up(weight, 50_000)
+    weigh(&conc[0..n], &flow[0..n])
 }
 
-// Both quantities of the line filled.
-fn fill_line(runs: &[u32; 92], measured: &[u32; 92], days: u8, conc: &mut [u32], flow: &mut [u32])
-    requires { ⌜ (days ≤ 92) × (length (now conc) ≡ 2208) × (length (now flow) ≡ 2208) ⌝ }
-    ensures { λ _. ⌜ (now (conc .exit) ≡ filledCells (periodStates (now (runs .entry)) (now (measured .entry)) days) (now (conc .entry))) × (now (flow .exit) ≡ filledCells (periodStates (now (runs .entry)) (now (measured .entry)) days) (now (flow .entry))) ⌝ }
+// The grams of a line by its method and its cells, which are filled under method 1.
+pub fn line_grams(method: u32, v: View, s: Sums, conc: &[u32], flow: &[u32]) -> u64
+    requires { ⌜ (24 * v .head .days ≤ length (now conc)) × (24 * v .head .days ≤ length (now flow)) × (method ≡ 1 → periodWeight (v .head .days) (now conc) (now flow) < 2 ^ 64) × (s .weight ≤ 600_000_000_000_000) × (v .running ≤ 2208) ⌝ }
+    ensures { λ r. ⌜ r ≡ lineGrams method v s (now (conc .entry)) (now (flow .entry)) ⌝ }
 {
-    let mut states = [0u8; 2208];
-    hours::hour_states(runs, measured, days, &mut states);
-    let n = 24 * (days as usize);
-    fills::fill_gaps(&states[0..n], conc, flow);
-}
-
-// Method 1: both quantities filled, and the grams. A line that lacks no hour has nothing to fill.
-fn automatic_grams(
-    first: u32,
-    runs: &[u32; 92],
-    measured: &[u32; 92],
-    days: u8,
-    conc: &mut [u32],
-    flow: &mut [u32],
-) -> u64
-    requires { ⌜ (days ≤ 92) × (length (now conc) ≡ 2208) × (length (now flow) ≡ 2208) × Limits (now conc) (now flow) × (first ≡ firstMissing (now runs) (now measured) days) ⌝ }
-    ensures { λ r. ⌜ FilledLine (periodStates (now (runs .entry)) (now (measured .entry)) days) days (now (conc .entry)) (now (flow .entry)) (now (conc .exit)) (now (flow .exit)) r ⌝ }
-{
-    if first == 0 {
-        return period_grams(conc, flow, days);
-    }
-    fill_line(runs, measured, days, conc, flow);
-    period_grams(conc, flow, days)
-}
-
-fn manual_grams(s: Sums, running: u32) -> u64
-    requires { ⌜ (0 < s .surveyed) × (s .surveyed ≤ 120) × (s .weight ≤ 600_000_000_000_000) × (running ≤ 2208) ⌝ }
-    ensures { λ r. ⌜ r ≡ halvesUp (s .weight * running) (s .surveyed * 100_000) ⌝ }
-{
-    halves_up(s.weight * (running as u64), (s.surveyed as u64) * 50_000)
-}
-
-// The grams of a line, and its cells filled under method 1.
-pub fn line_grams(
-    method: u32,
-    first: u32,
-    v: View,
-    s: Sums,
-    runs: &[u32; 92],
-    measured: &[u32; 92],
-    conc: &mut [u32],
-    flow: &mut [u32],
-) -> u64
-    requires { ⌜ (v .head .days ≤ 92) × (length (now conc) ≡ 2208) × (length (now flow) ≡ 2208) × Limits (now conc) (now flow) × (method ≡ 2 → 0 < s .surveyed) × (s .surveyed ≤ 120) × (s .weight ≤ 600_000_000_000_000) × (v .running ≤ 2208) × (first ≡ firstMissing (now runs) (now measured) (v .head .days)) ⌝ }
-    ensures { λ r. ⌜ LineGrams method v s (periodStates (now (runs .entry)) (now (measured .entry)) (v .head .days)) (now (conc .entry)) (now (flow .entry)) (now (conc .exit)) (now (flow .exit)) r ⌝ }
-{
+    let h = v.head;
     if method == 1 {
-        let h = v.head;
-        return automatic_grams(first, runs, measured, h.days, conc, flow);
+        return line::grams_of(period_weight(conc, flow, h.days), 1);
     }
     if method == 2 {
-        return manual_grams(s, v.running);
+        return line::grams_of(s.weight * (v.running as u64), s.surveyed);
     }
-    let h = v.head;
     grams_in(fuel::fuel_figure(h, v.fuel, s.sulphur, s.ash))
-}
-
-fn share(pollutant: u8, own: u8, grams: u64) -> u64
-    ensures { λ r. ⌜ r ≡ need 0 (eqb pollutant own) grams ⌝ }
-{
-    if pollutant == own { grams } else { 0 }
 }
 
 pub fn with_grams(s: Sums, pollutant: u8, grams: u64) -> Sums
@@ -133,8 +67,8 @@ pub fn with_grams(s: Sums, pollutant: u8, grams: u64) -> Sums
     ensures { λ r. ⌜ r ≡ withGrams s pollutant grams ⌝ }
 {
     let mut n = s;
-    n.total1 = share(pollutant, 1, grams) + s.total1;
-    n.total2 = share(pollutant, 2, grams) + s.total2;
-    n.total3 = share(pollutant, 3, grams) + s.total3;
+    n.total1 = line::share(pollutant, 1, grams) + s.total1;
+    n.total2 = line::share(pollutant, 2, grams) + s.total2;
+    n.total3 = line::share(pollutant, 3, grams) + s.total3;
     n
 }

@@ -1,50 +1,46 @@
 -- `walk::close::line_grams` meets its contract, by the method. Assumes nothing.
 use borrow.Author.Needs.{needs}
-use mathlib.Core.Path.{refl, _∙_, ap}
+use mathlib.Core.Path.{_∙_, ap}
+use Prim.Native.Nat.{ℕ}
+use native.Mathlib.Nat.{mul-le-mul}
 use native.Mathlib.Omega.{arith}
+use Rattle.law.proofs.Tests.{pick-eq, pick-not-eq}
+use Rattle.line.specs.Line.{gramsOf}
 use Rattle.walk.specs.Closing.{gramsIn}
 use Rattle.walk.proofs.close.line_grams.Statement.{statement}
 use Rattle.walk.proofs.close.line_grams.Tie as tie
 
+period-weight-requires : tie.Need-period-weight-requires
+period-weight-requires c κs = let p = c .before .before .before .before .pre in (p .0, p .1, p .2 (c .if1 .taken))
+
 returns : tie.Need-returns
 returns c =
-    let g = c .before .before .before .before in
-    let t = g .before .before .before .before in
-    record {
-      automatic = λ _. g .automatic-grams .ensures;
-      manual = λ e. absurd (omega (arith, t .if1 .taken));
-      fuel = λ n m. absurd (n (t .if1 .taken));
-    }
+    let w = c .before in
+    pick-eq _ _ _ _ _ (w .before .if1 .taken) (c .grams-of .ensures ∙ ap (λ (n : ℕ). gramsOf n 1) (w .period-weight .ensures))
 
-manual-grams-requires : tie.Need-manual-grams-requires
-manual-grams-requires c κs = let p = c .before .before .before .before .pre in (p .4 (c .if2 .taken), p .5, p .6, p .7)
+mul-grams-of : tie.Need-mul-grams-of
+mul-grams-of c = let p = c .before .before .before .before .before .before .before .pre in omega (arith, mul-le-mul (p .3) (p .4))
 
 returns-2 : tie.Need-returns-2
 returns-2 c =
-    record {
-      automatic = λ e. absurd (c .before .before .if1 .left e);
-      manual = λ _. (refl, refl, c .manual-grams .ensures);
-      fuel = λ n m. absurd (m (c .before .if2 .taken));
-    }
+    let t = c .before .before .before in
+    pick-not-eq _ _ _ _ _ (t .before .if1 .left) (pick-eq _ _ _ _ _ (t .if2 .taken) (c .grams-of2 .ensures))
 
 returns-3 : tie.Need-returns-3
 returns-3 c =
-    let e = c .before .before .before in
-    record {
-      automatic = λ q. absurd (e .before .if1 .left q);
-      manual = λ q. absurd (e .if2 .left q);
-      fuel = λ n m. (refl, refl, c .grams-in .ensures ∙ ap gramsIn (c .before .fuel-figure .ensures));
-    }
+    let e = c .before .before in
+    pick-not-eq _ _ _ _ _ (e .before .if1 .left) (pick-not-eq _ _ _ _ _ (e .if2 .left) (c .grams-in .ensures ∙ ap gramsIn (c .before .fuel-figure .ensures)))
 
 pub line-grams-spec : {M : Type 1} → statement M
 line-grams-spec =
     tie.close
     (tie.spec
+    period-weight-requires
     (λ c κs. search needs)
-    (λ c. search needs)
-    (λ c. search needs)
     returns
-    manual-grams-requires
+    (λ c. search needs)
+    mul-grams-of
+    (λ c κs. search needs)
     returns-2
     (λ c κs. search needs)
     (λ c κs. search needs)

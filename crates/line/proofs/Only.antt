@@ -1,0 +1,20 @@
+-- No second answer meets the promise of a public call. Assumes nothing.
+use mathlib.Core.Path.{_≡_}
+use mathlib.Core.List.{List}
+use Prim.Native.Nat.{ℕ, max}
+use lib.Dec.{eqb}
+use Rattle.law.specs.Words.{need}
+use Rattle.rules.specs.declared.View.{View}
+use Rattle.line.specs.Line.{gramsOf, rowIn}
+
+pub larger : (a b m n : ℕ) → m ≡ max a b → n ≡ max a b → m ≡ n
+larger a b m n p q = cc
+
+pub grams-of : (weight n a b : ℕ) → a ≡ gramsOf weight n → b ≡ gramsOf weight n → a ≡ b
+grams-of weight n a b p q = cc
+
+pub row-of : (v : View) (method grams first : ℕ) (a b : List ℕ) → a ≡ rowIn v method grams first → b ≡ rowIn v method grams first → a ≡ b
+row-of v method grams first a b p q = cc
+
+pub share : (pollutant own grams a b : ℕ) → a ≡ need 0 (eqb pollutant own) grams → b ≡ need 0 (eqb pollutant own) grams → a ≡ b
+share pollutant own grams a b p q = cc

@@ -1,0 +1,2 @@
+-- The figures of a line.
+pub mod Line

@@ -1,0 +1,33 @@
+-- `period::fill_line` meets its contract: the states are those of the period, and both quantities are filled by them. Assumes nothing.
+use borrow.Author.Needs.{needs}
+use mathlib.Core.Path.{refl}
+use lib.ListN.{replicate}
+use denote.Ref.{now}
+use Rattle.period.proofs.Filled.{states-are}
+use Rattle.period.proofs.fill_line.Statement.{statement}
+use Rattle.period.proofs.fill_line.Tie as tie
+
+returns : tie.Need-returns
+returns c =
+    let fills = c .before .before .before .before in
+    let states = fills .before .before .before .before .before .before in
+    let start = states .before .before .before .before .before .before in
+    let p = start .pre in
+    let conc = now (start .args .conc) in
+    let flow = now (start .args .flow) in
+    (states-are _ _ _ (replicate 2_208 0) _ conc flow conc _ (p .0) refl (p .1) (p .2) (states .hour-states .ensures) (fills .fill-gaps .ensures .0), states-are _ _ _ (replicate 2_208 0) _ conc flow flow _ (p .0) refl (p .1) (p .2) (states .hour-states .ensures) (fills .fill-gaps .ensures .1))
+
+pub fill-line-spec : {M : Type 1} → statement M
+fill-line-spec =
+    tie.close
+    (tie.spec
+    (λ c. search needs)
+    (λ c κs. search needs)
+    (λ c. search needs)
+    (λ c. search needs)
+    (λ c. search needs)
+    (λ c. search needs)
+    (λ c κs. search needs)
+    (λ c. search needs)
+    (λ c. search needs)
+    returns)

@@ -1,0 +1,2 @@
+-- The hours of a line's period.
+pub mod Period

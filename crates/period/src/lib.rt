@@ -1,0 +1,54 @@
+// The hours of a line's period: a survey put in, its gaps filled.
+ghost use mathlib.Core.Path.{_≡_};
+ghost use Prim.Native.Nat.{_≤_};
+ghost use lib.ListN.{length};
+ghost use Rattle.rules.specs.Hours.{runsAt, firstMissing};
+ghost use Rattle.fills.specs.Gaps.{filledCells};
+ghost use Rattle.period.specs.Period.{replacedCell, periodStates, isFilled, periodCells};
+
+// "A survey replaces both readings of a measured hour"; one in a missing hour changes nothing there.
+pub fn replace(measured: &[u32; 92], hour: u16, v: u32, cells: &mut [u32])
+    ensures { λ _. ⌜ now (cells .exit) ≡ replacedCell (runsAt (now (measured .entry)) hour) hour v (now (cells .entry)) ⌝ }
+{
+    let h = hour as usize;
+    if h >= cells.len() {
+        return;
+    }
+    if hours::runs_at(measured, hour) {
+        cells[h] = v;
+    }
+}
+
+// Both quantities of the line filled.
+fn fill_line(runs: &[u32; 92], measured: &[u32; 92], days: u8, conc: &mut [u32], flow: &mut [u32])
+    requires { ⌜ (days ≤ 92) × (length (now conc) ≡ 2208) × (length (now flow) ≡ 2208) ⌝ }
+    ensures { λ _. ⌜ (now (conc .exit) ≡ filledCells (periodStates (now (runs .entry)) (now (measured .entry)) days) (now (conc .entry))) × (now (flow .exit) ≡ filledCells (periodStates (now (runs .entry)) (now (measured .entry)) days) (now (flow .entry))) ⌝ }
+{
+    let mut states = [0u8; 2208];
+    hours::hour_states(runs, measured, days, &mut states);
+    let n = 24 * (days as usize);
+    fills::fill_gaps(&states[0..n], conc, flow);
+}
+
+// "Fills under method 1 only", and the first missing hour plus 1: a line that lacks no hour has nothing to fill.
+pub fn fill_period(
+    method: u32,
+    runs: &[u32; 92],
+    measured: &[u32; 92],
+    days: u8,
+    conc: &mut [u32],
+    flow: &mut [u32],
+) -> u32
+    ensures { λ r. ⌜ (r ≡ firstMissing (now (runs .entry)) (now (measured .entry)) days)
+        × (now (conc .exit) ≡ periodCells (isFilled method days (now (conc .entry)) (now (flow .entry))) (periodStates (now (runs .entry)) (now (measured .entry)) days) (now (conc .entry)))
+        × (now (flow .exit) ≡ periodCells (isFilled method days (now (conc .entry)) (now (flow .entry))) (periodStates (now (runs .entry)) (now (measured .entry)) days) (now (flow .entry))) ⌝ }
+{
+    let first = hours::first_missing(runs, measured, days);
+    let long = (conc.len() == 2208) & (flow.len() == 2208);
+    if (method == 1) & ((days <= 92) & long) {
+        if first != 0 {
+            fill_line(runs, measured, days, conc, flow);
+        }
+    }
+    first
+}
