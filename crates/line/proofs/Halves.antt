@@ -1,12 +1,16 @@
--- A line's grams: half the divisor added first is halves up. Assumes nothing.
+-- A line's grams: a product of two u32 is a u64, and half the divisor added first is halves up. Assumes nothing.
 use mathlib.Core.Path.{_≡_, refl, _∙_, sym, ap₂}
-use Prim.Native.Nat.{ℕ, _+_, _*_, _/_, _<_, _≤_}
+use Prim.Native.Nat.{ℕ, _+_, _*_, _/_, _^_, _<_, _≤_}
 use lib.Dec.{leb}
-use native.Mathlib.Nat.{mul-div-mul-right}
+use native.Mathlib.Nat.{le-of-lt, lt-of-le-of-lt, mul-le-mul-left, mul-div-mul-right}
 use native.Mathlib.Omega.{arith}
 use Rattle.law.specs.Words.{need, halvesUp}
 use Rattle.law.proofs.Tests.{need-lt, need-not-lt, need-le, need-not-le}
 use Rattle.line.specs.Line.{gramsOf}
+
+-- a product of two u32 is a u64
+pub product-fits : {a b : ℕ} → a < 2 ^ 32 → b < 2 ^ 32 → a * b < 2 ^ 64
+product-fits {a} {b} l m = lt-of-le-of-lt (mul-le-mul-left a (le-of-lt m)) (omega arith)
 
 pub halves-of : (n half : ℕ) → 0 < half → (n + half) / (2 * half) ≡ halvesUp n (2 * half)
 unfolding halvesUp

@@ -1,7 +1,7 @@
 -- No second answer meets the promise of a public call. Assumes nothing.
 use mathlib.Core.Path.{_≡_}
 use mathlib.Core.List.{List}
-use Prim.Native.Nat.{ℕ, max}
+use Prim.Native.Nat.{ℕ, _*_, max}
 use lib.Dec.{eqb}
 use Rattle.law.specs.Words.{need}
 use Rattle.rules.specs.declared.View.{View}
@@ -9,6 +9,9 @@ use Rattle.line.specs.Line.{gramsOf, rowIn}
 
 pub larger : (a b m n : ℕ) → m ≡ max a b → n ≡ max a b → m ≡ n
 larger a b m n p q = cc
+
+pub product : (c l a b : ℕ) → a ≡ c * l → b ≡ c * l → a ≡ b
+product c l a b p q = cc
 
 pub grams-of : (weight n a b : ℕ) → a ≡ gramsOf weight n → b ≡ gramsOf weight n → a ≡ b
 grams-of weight n a b p q = cc

@@ -1,7 +1,7 @@
 // The figures of a line: the larger sulphur, grams by weighed hours, the row, its share of a total.
 use rules::View;
 ghost use mathlib.Core.Path.{_≡_};
-ghost use Prim.Native.Nat.{max};
+ghost use Prim.Native.Nat.{_*_, max};
 ghost use lib.Dec.{eqb};
 ghost use Rattle.law.specs.Words.{need};
 ghost use Rattle.line.specs.Line.{gramsOf, rowIn};
@@ -11,6 +11,13 @@ pub fn larger(a: u16, b: u16) -> u16
     ensures { λ r. ⌜ r ≡ max a b ⌝ }
 {
     if a <= b { b } else { a }
+}
+
+// c x l of an hour.
+pub fn product(c: u32, l: u32) -> u64
+    ensures { λ r. ⌜ r ≡ c * l ⌝ }
+{
+    (c as u64) * (l as u64)
 }
 
 // The sum of c x l over n x 100,000, halves up: half of that is added first, so that nothing is doubled. 0 where it could not be stated.

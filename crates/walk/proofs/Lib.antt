@@ -7,6 +7,7 @@ pub mod Cleared
 pub mod Steps
 pub mod Filled
 pub mod Closed
+pub mod Surveyed
 pub mod Standing
 pub mod Ending
 pub mod Takes

@@ -1,17 +1,11 @@
 -- The sum of products hour by hour. Assumes nothing.
 use mathlib.Core.Path.{_≡_, _∙_, sym, ap, ap₂}
 use mathlib.Core.List.{List}
-use Prim.Native.Nat.{ℕ, _+_, _*_, _^_, _<_, _≤_}
-use native.Mathlib.Nat.{le-of-lt, lt-of-le-of-lt, mul-le-mul-left}
+use Prim.Native.Nat.{ℕ, _+_, _*_, _<_, _≤_}
 use native.Mathlib.Numerals.{add-one}
-use native.Mathlib.Omega.{arith}
 use lib.ListN.{length, getD, drop, drop-of-length-le}
 use lib.Seq.{drop-cons}
 use Rattle.fills.specs.Weights.{products}
-
--- a product of two u32 is a u64
-pub product-fits : {a b : ℕ} → a < 2 ^ 32 → b < 2 ^ 32 → a * b < 2 ^ 64
-product-fits {a} {b} l m = lt-of-le-of-lt (mul-le-mul-left a (le-of-lt m)) (omega arith)
 
 module _ (xs ys : List ℕ) (i : ℕ) where
   -- one hour more, and none more

@@ -9,7 +9,8 @@ use lib.Dec.{eqb}
 use borrow.Author.Tests.{eqb-true, eqb-false}
 use Rattle.law.specs.Words.{pick, table}
 use Rattle.law.proofs.Tables.{table-length, table-at}
-use Rattle.reading.specs.Reading.{flow}
+use Rattle.reading.specs.declared.Rounded.{Rounded}
+use Rattle.reading.specs.Reading.{flow, flaggedOf}
 use Rattle.rules.specs.declared.Head.{Head}
 use Rattle.rules.specs.declared.Survey.{Survey}
 use Rattle.rules.specs.declared.Batch.{Batch}
@@ -23,15 +24,17 @@ use Rattle.rules.specs.Grams.{valuesOf}
 use Rattle.rules.specs.Judge.{fine, judgeHours}
 use Rattle.rules.specs.Walk.{Between, Inside, viewOf, begun, withDay, withEnforcement, withPlant, withBatch}
 use Rattle.record.specs.Flat.{masksOf}
-use Rattle.day.specs.Day.{kept, concentrationAt, flowAt}
+use Rattle.day.specs.Day.{concentrationAt, flowAt}
 use Rattle.day.proofs.Laws.{PairAccepted, day-accepted, concentration-blank, flow-blank, concentration-most, flow-most}
 use Rattle.walk.specs.declared.books.Sums.{Sums}
 use Rattle.walk.specs.declared.take.Taken.{Taken}
 use Rattle.walk.specs.Views.{afterHead, afterDay, afterEnforcement, afterPlant, afterBatch, withSurvey}
 use Rattle.walk.specs.Books.{patched, plain, flagAt, LineBooks, Kept}
 use Rattle.walk.proofs.Cleared.{cleared-all}
-use Rattle.walk.specs.Taking.{HeadTaken, DayTaken, EnforcementTaken, PlantTaken, BatchTaken, surveyC, surveyL}
-use Rattle.period.specs.Period.{replacedCell}
+use Rattle.walk.specs.Taking.{HeadTaken, DayTaken, EnforcementTaken, PlantTaken, BatchTaken}
+use Rattle.period.specs.declared.Weighed.{Weighed}
+use Rattle.period.specs.Period.{replacedCell, surveyC, surveyL, standing, nothing, beats}
+use Rattle.period.proofs.Surveyed.{beats-within}
 use Rattle.walk.proofs.Views.{view-head, view-day, view-enforcement, view-plant, view-batch}
 use Rattle.walk.proofs.Steps.{begun-books, day-books, enforcement-books, beaten-books, plant-books, batch-books}
 
@@ -143,12 +146,12 @@ kept-day x done place bytes v s runs measured flags conc flow out runs' measured
 
 -- ---- surveys: an accepted pair's kept values are its values
 survey-c : (t : Survey) → PairAccepted (t .pair) → surveyC t ≡ valuesOf (t .pair) .c
-unfolding kept valuesOf
-survey-c t e = ap kept (e .concentration-value)
+unfolding flaggedOf valuesOf
+survey-c t e = ap (λ (r : Rounded). flaggedOf r .value) (e .concentration-value)
 
 survey-l : (t : Survey) → PairAccepted (t .pair) → surveyL t ≡ valuesOf (t .pair) .l
-unfolding kept valuesOf
-survey-l t e = ap kept (e .flow-value)
+unfolding flaggedOf valuesOf
+survey-l t e = ap (λ (r : Rounded). flaggedOf r .value) (e .flow-value)
 
 most-c : (t : Survey) → PairAccepted (t .pair) → valuesOf (t .pair) .c ≤ 1_000_000
 unfolding valuesOf
@@ -165,6 +168,13 @@ pick-on b x y e = rw e
 pick-off : {A : Type 0} (b : Bool) (x y : A) → b ≡ false → pick b x y ≡ y
 unfolding pick
 pick-off b x y e = rw e
+
+-- a survey that is beaten adds nothing
+adds-nothing : (s : Sums) → withSurvey s nothing ≡ s
+adds-nothing s =
+    let n : s .surveyed + 0 ≡ s .surveyed = omega arith in
+    let w : 0 + s .weight ≡ s .weight = omega arith in
+    ap₂ (λ (i j : ℕ). record { surveyed = i; weight = j; sulphur = s .sulphur; ash = s .ash; used = s .used; total1 = s .total1; total2 = s .total2; total3 = s .total3 }) n w
 
 flag-bit : (b : Bool) → eqb (pick b 1 0) 1 ≡ b
 unfolding pick
@@ -193,6 +203,9 @@ module _ (x : Line) (done : List Line) (v : View) (s : Sums) (t : Survey) (runs 
     cell-l : (cells : List ℕ) → replacedCell here (t .hour) (surveyL t) cells ≡ replacedCell here (t .hour) (valuesOf (t .pair) .l) cells
     cell-l cells = ap (λ (n : ℕ). replacedCell here (t .hour) n cells) (survey-l t ok)
 
+    stands : (w : Weighed) → w ≡ standing (surveyC t) (surveyL t) → withSurvey s w ≡ withSurvey s (standing (valuesOf (t .pair) .c) (valuesOf (t .pair) .l))
+    stands w e = ap (withSurvey s) e ∙ ap₂ (λ (c l : ℕ). withSurvey s (standing c l)) (survey-c t ok) (survey-l t ok)
+
     pub kept-enforcement : (flags' conc' flow' : List ℕ) (r : Taken) → x .plant ≡ [] → EnforcementTaken v s t here flags conc flow flags' conc' flow' r
         → Kept (Inside (withEnforcement x t) done) (r .view) (r .sums) runs measured flags' conc' flow' out
     kept-enforcement flags' conc' flow' r none e =
@@ -201,8 +214,8 @@ module _ (x : Line) (done : List Line) (v : View) (s : Sums) (t : Survey) (runs 
         (e .view ∙ ap (λ (w : View). afterEnforcement w (t .hour)) (k .view) ∙ view-enforcement x done t)
         (ap (λ (u : Sums). u .total1) (e .sums)) (ap (λ (u : Sums). u .total2) (e .sums)) (ap (λ (u : Sums). u .total3) (e .sums))
         refl refl (ap length (e .flagsNow) ∙ length-set flags (t .hour) 1)
-        (ap length (e .concNow) ∙ pick-length here conc (t .hour) (surveyC t)) (ap length (e .flowNow) ∙ pick-length here flow (t .hour) (surveyL t))
-        (books-as (withEnforcement x t) books (e .sums ∙ ap₂ (withSurvey s) (survey-c t ok) (survey-l t ok)) refl refl (e .flagsNow) (e .concNow ∙ cell-c conc) (e .flowNow ∙ cell-l flow))
+        (ap length (e .put .concentrations) ∙ pick-length here conc (t .hour) (surveyC t)) (ap length (e .put .flows) ∙ pick-length here flow (t .hour) (surveyL t))
+        (books-as (withEnforcement x t) books (e .sums ∙ stands (e .weighed) (e .put .weighs)) refl refl (e .flagsNow) (e .put .concentrations ∙ cell-c conc) (e .put .flows ∙ cell-l flow))
 
     -- a flag is 1 where an enforcement survey stands
     flag-is : getD flags (t .hour) 0 ≡ flagAt (x .enforcement) (t .hour)
@@ -212,19 +225,19 @@ module _ (x : Line) (done : List Line) (v : View) (s : Sums) (t : Survey) (runs 
       plant-view : r .view ≡ viewOf (Inside (withPlant x t) done)
       plant-view = e .view ∙ ap (λ (w : View). afterPlant w (t .hour)) (k .view) ∙ view-plant x done t
 
-      plant-by : (b : Bool) → hasSurvey (t .hour) (x .enforcement) ≡ b → eqb (getD flags (t .hour) 0) 1 ≡ b → Kept (Inside (withPlant x t) done) (r .view) (r .sums) runs measured flags conc' flow' out
+      plant-by : (b : Bool) → hasSurvey (t .hour) (x .enforcement) ≡ b → beats flags (t .hour) ≡ b → Kept (Inside (withPlant x t) done) (r .view) (r .sums) runs measured flags conc' flow' out
       plant-by true h q =
-          let es : r .sums ≡ s = e .sums ∙ pick-on _ _ _ q in
-          let ec : conc' ≡ conc = e .concNow ∙ pick-on _ _ _ q in
-          let el : flow' ≡ flow = e .flowNow ∙ pick-on _ _ _ q in
+          let es : r .sums ≡ s = e .sums ∙ ap (withSurvey s) (e .put .weighs ∙ pick-on _ _ _ q) ∙ adds-nothing s in
+          let ec : conc' ≡ conc = e .put .concentrations ∙ pick-on _ _ _ q in
+          let el : flow' ≡ flow = e .put .flows ∙ pick-on _ _ _ q in
           let books = beaten-books x t within (k .books .bounded) all-days room h s runs measured flags conc flow (k .books) in
           kept-line x (withPlant x t) done v (r .view) s (r .sums) runs runs measured measured flags flags conc conc' flow flow' out k plant-view
           (ap (λ (u : Sums). u .total1) es) (ap (λ (u : Sums). u .total2) es) (ap (λ (u : Sums). u .total3) es)
           refl refl refl (ap length ec) (ap length el) (books-as (withPlant x t) books es refl refl refl ec el)
       plant-by false h q =
-          let es : r .sums ≡ withSurvey s (valuesOf (t .pair) .c) (valuesOf (t .pair) .l) = e .sums ∙ pick-off _ _ _ q ∙ ap₂ (withSurvey s) (survey-c t ok) (survey-l t ok) in
-          let ec : conc' ≡ replacedCell here (t .hour) (valuesOf (t .pair) .c) conc = e .concNow ∙ pick-off _ _ _ q ∙ cell-c conc in
-          let el : flow' ≡ replacedCell here (t .hour) (valuesOf (t .pair) .l) flow = e .flowNow ∙ pick-off _ _ _ q ∙ cell-l flow in
+          let es : r .sums ≡ withSurvey s (standing (valuesOf (t .pair) .c) (valuesOf (t .pair) .l)) = e .sums ∙ stands (e .weighed) (e .put .weighs ∙ pick-off _ _ _ q) in
+          let ec : conc' ≡ replacedCell here (t .hour) (valuesOf (t .pair) .c) conc = e .put .concentrations ∙ pick-off _ _ _ q ∙ cell-c conc in
+          let el : flow' ≡ replacedCell here (t .hour) (valuesOf (t .pair) .l) flow = e .put .flows ∙ pick-off _ _ _ q ∙ cell-l flow in
           let books = plant-books x t within (k .books .bounded) all-days room h (most-c t ok) (most-l t ok) s runs measured flags conc flow (k .books) in
           kept-line x (withPlant x t) done v (r .view) s (r .sums) runs runs measured measured flags flags conc conc' flow flow' out k plant-view
           (ap (λ (u : Sums). u .total1) es) (ap (λ (u : Sums). u .total2) es) (ap (λ (u : Sums). u .total3) es)
@@ -233,7 +246,7 @@ module _ (x : Line) (done : List Line) (v : View) (s : Sums) (t : Survey) (runs 
 
       pub kept-plant : Kept (Inside (withPlant x t) done) (r .view) (r .sums) runs measured flags conc' flow' out
       unfolding flagAt
-      kept-plant = plant-by (hasSurvey (t .hour) (x .enforcement)) refl (ap (λ (n : ℕ). eqb n 1) flag-is ∙ flag-bit (hasSurvey (t .hour) (x .enforcement)))
+      kept-plant = plant-by (hasSurvey (t .hour) (x .enforcement)) refl (sym (beats-within flags (t .hour) within) ∙ ap (λ (n : ℕ). eqb n 1) flag-is ∙ flag-bit (hasSurvey (t .hour) (x .enforcement)))
 
 -- ---- a batch
 pub kept-batch : (x : Line) (done : List Line) (v : View) (s : Sums) (b : Batch) (runs measured flags conc flow out : List ℕ) (r : Taken)

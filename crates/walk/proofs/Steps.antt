@@ -25,6 +25,7 @@ use Rattle.rules.specs.Walk.{begun, withDay, withEnforcement, withPlant, withBa
 use Rattle.fuel.specs.Fuel.{ashOf}
 use Rattle.walk.proofs.Cleared.{table-zero}
 use Rattle.walk.specs.declared.books.Sums.{Sums}
+use Rattle.period.specs.Period.{standing}
 use Rattle.walk.specs.Views.{openedSums, withSurvey, withFuel}
 use Rattle.walk.specs.Books.{patched, plain, valuesAt, flagAt, Bounded, LineBooks}
 use Rattle.walk.proofs.Hours.{begun-zero, past-zero, day-before, day-own, enforcement-other, plant-other, plant-second, enforcement-own, plant-own, batch-same, measured-slot, unmeasured}
@@ -263,7 +264,7 @@ module _ (x : Line) (s : Survey) (within : s .hour < 2_208) where
           }
 
       pub enforcement-books : s .hour < 24 * x .head .days → (t : Sums) (runs measured flags conc flow : List ℕ) → LineBooks x t runs measured flags conc flow
-          → LineBooks (withEnforcement x s) (withSurvey t (valuesOf (s .pair) .c) (valuesOf (s .pair) .l)) runs measured (set flags (s .hour) 1)
+          → LineBooks (withEnforcement x s) (withSurvey t (standing (valuesOf (s .pair) .c) (valuesOf (s .pair) .l))) runs measured (set flags (s .hour) 1)
           (pick (runsAt (measuredMasks (x .days)) (s .hour)) (set conc (s .hour) (valuesOf (s .pair) .c)) conc)
           (pick (runsAt (measuredMasks (x .days)) (s .hour)) (set flow (s .hour) (valuesOf (s .pair) .l)) flow)
       unfolding withEnforcement sumOf amount surveyValues
@@ -369,7 +370,7 @@ module _ (x : Line) (s : Survey) (within : s .hour < 2_208) where
           }
 
       pub plant-books : (t : Sums) (runs measured flags conc flow : List ℕ) → LineBooks x t runs measured flags conc flow
-          → LineBooks (withPlant x s) (withSurvey t (valuesOf (s .pair) .c) (valuesOf (s .pair) .l)) runs measured flags
+          → LineBooks (withPlant x s) (withSurvey t (standing (valuesOf (s .pair) .c) (valuesOf (s .pair) .l))) runs measured flags
           (pick (runsAt (measuredMasks (x .days)) (s .hour)) (set conc (s .hour) (valuesOf (s .pair) .c)) conc)
           (pick (runsAt (measuredMasks (x .days)) (s .hour)) (set flow (s .hour) (valuesOf (s .pair) .l)) flow)
       unfolding withPlant amount surveyValues

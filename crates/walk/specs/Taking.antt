@@ -4,20 +4,19 @@ use mathlib.Core.Bool.{Bool}
 use mathlib.Core.List.{List, [], _∷_}
 use mathlib.Core.Path.{_≡_}
 use lib.ListN.{length, getD, set}
-use lib.Dec.{eqb}
-use Rattle.law.specs.Words.{pick, table, over}
-use Rattle.reading.specs.Reading.{reading, concentrationOf, flowOf}
+use Rattle.law.specs.Words.{table, over}
 use Rattle.rules.specs.declared.Head.{Head}
 use Rattle.rules.specs.declared.Survey.{Survey}
 use Rattle.rules.specs.declared.Batch.{Batch}
 use Rattle.rules.specs.declared.View.{View}
 use Rattle.rules.specs.Records.{dayOf}
 use Rattle.method.specs.Open.{lineMethod}
-use Rattle.period.specs.Period.{replacedCell}
+use Rattle.period.specs.declared.Weighed.{Weighed}
+use Rattle.period.specs.Period.{beats, SurveyPut, PlantPut}
 use Rattle.line.specs.Line.{rowIn}
 use Rattle.rules.specs.Judge.{fine, judgeHours}
 use Rattle.record.specs.declared.DayMasks.{DayMasks}
-use Rattle.day.specs.Day.{kept, concentrationAt, flowAt}
+use Rattle.day.specs.Day.{concentrationAt, flowAt}
 use Rattle.walk.specs.declared.books.Sums.{Sums}
 use Rattle.walk.specs.declared.take.Taken.{Taken}
 use Rattle.walk.specs.Views.{afterHead, afterDay, afterEnforcement, afterPlant, afterBatch, afterEnd, openedSums, withSurvey, withFuel}
@@ -44,37 +43,22 @@ pub record DayTaken (at : ℕ) (bytes : List ℕ) (v : View) (s : Sums) (d : Day
   pub concNow : r .fault .number ≡ 0 → conc' ≡ patched (λ k. getD (table (concentrationAt (dayOf bytes)) 24) k 0) 24 (24 * d .number) conc
   pub flowNow : r .fault .number ≡ 0 → flow' ≡ patched (λ k. getD (table (flowAt (dayOf bytes)) 24) k 0) 24 (24 * d .number) flow
 
--- the values of a survey
-abbrev pub surveyC : Survey → ℕ
-surveyC s = kept (concentrationOf (reading (s .pair .concentration)))
-
-abbrev pub surveyL : Survey → ℕ
-surveyL s = kept (flowOf (reading (s .pair .flow)))
-
--- a survey that stands, in a measured hour or another
-pub record SurveyTaken (view : View) (s : Sums) (t : Survey) (measured : Bool) (conc flow conc' flow' : List ℕ) (r : Taken) : Type 0 where
-  pub faults : r .fault ≡ fine
-  pub views : r .view ≡ view
-  pub sums : r .sums ≡ withSurvey s (surveyC t) (surveyL t)
-  pub concNow : conc' ≡ replacedCell measured (t .hour) (surveyC t) conc
-  pub flowNow : flow' ≡ replacedCell measured (t .hour) (surveyL t) flow
-
 -- an enforcement survey, in a measured hour or another
 pub record EnforcementTaken (v : View) (s : Sums) (t : Survey) (measured : Bool) (flags conc flow flags' conc' flow' : List ℕ) (r : Taken) : Type 0 where
+  pub weighed : Weighed
+  pub put : SurveyPut t measured conc flow conc' flow' weighed
   pub faults : r .fault ≡ fine
   pub view : r .view ≡ afterEnforcement v (t .hour)
-  pub sums : r .sums ≡ withSurvey s (surveyC t) (surveyL t)
+  pub sums : r .sums ≡ withSurvey s weighed
   pub flagsNow : flags' ≡ set flags (t .hour) 1
-  pub concNow : conc' ≡ replacedCell measured (t .hour) (surveyC t) conc
-  pub flowNow : flow' ≡ replacedCell measured (t .hour) (surveyL t) flow
 
 -- a plant survey, where an enforcement survey stands and where none does
 pub record PlantTaken (v : View) (s : Sums) (t : Survey) (measured : Bool) (flags conc flow conc' flow' : List ℕ) (r : Taken) : Type 0 where
+  pub weighed : Weighed
+  pub put : PlantPut t (beats flags (t .hour)) measured conc flow conc' flow' weighed
   pub faults : r .fault ≡ fine
   pub view : r .view ≡ afterPlant v (t .hour)
-  pub sums : r .sums ≡ pick (eqb (getD flags (t .hour) 0) 1) s (withSurvey s (surveyC t) (surveyL t))
-  pub concNow : conc' ≡ pick (eqb (getD flags (t .hour) 0) 1) conc (replacedCell measured (t .hour) (surveyC t) conc)
-  pub flowNow : flow' ≡ pick (eqb (getD flags (t .hour) 0) 1) flow (replacedCell measured (t .hour) (surveyL t) flow)
+  pub sums : r .sums ≡ withSurvey s weighed
 
 -- a batch
 pub record BatchTaken (v : View) (s : Sums) (b : Batch) (r : Taken) : Type 0 where

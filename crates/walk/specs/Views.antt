@@ -10,6 +10,7 @@ use Rattle.rules.specs.declared.View.{View}
 use Rattle.rules.specs.Hours.{runningOf, missingOf}
 use Rattle.rules.specs.Judge.{refuse, fine, first, key}
 use Rattle.rules.specs.Walk.{noHead}
+use Rattle.period.specs.declared.Weighed.{Weighed}
 use Rattle.record.specs.declared.DayMasks.{DayMasks}
 use Rattle.rules.specs.declared.Fault.{Fault}
 use Rattle.walk.specs.declared.books.Sums.{Sums}
@@ -55,10 +56,10 @@ afterEnd v = openedView false (v .lines + 1) (v .floor) noHead
 abbrev pub openedSums : Sums → Head → Sums
 openedSums s h = record { surveyed = 0; weight = 0; sulphur = 0; ash = 0; used = 24 * h .days; total1 = s .total1; total2 = s .total2; total3 = s .total3 }
 
--- a surveyed hour more, with its c and l
-abbrev pub withSurvey : Sums → ℕ → ℕ → Sums
-withSurvey s c l =
-    record { surveyed = s .surveyed + 1; weight = c * l + s .weight; sulphur = s .sulphur; ash = s .ash; used = s .used; total1 = s .total1; total2 = s .total2; total3 = s .total3 }
+-- what a survey adds
+abbrev pub withSurvey : Sums → Weighed → Sums
+withSurvey s w =
+    record { surveyed = s .surveyed + w .count; weight = w .weight + s .weight; sulphur = s .sulphur; ash = s .ash; used = s .used; total1 = s .total1; total2 = s .total2; total3 = s .total3 }
 
 -- a batch more
 abbrev pub withFuel : Sums → Batch → Sums

@@ -1,0 +1,30 @@
+-- The figures of a survey are those of its readings. Assumes nothing.
+use mathlib.Core.Path.{_≡_, refl, sym, ap}
+use mathlib.Core.Bool.{Bool, true, false, _&&_}
+use mathlib.Core.List.{List}
+use Prim.Native.Nat.{ℕ, _<_, _≤_}
+use lib.ListN.{getD}
+use lib.Dec.{eqb}
+use borrow.Author.Tests.{lt-ltb, le-ltb}
+use Rattle.reading.specs.declared.FlaggedPair.{FlaggedPair}
+use Rattle.reading.specs.Reading.{reading, concentrationOf, flowOf, flaggedPair}
+use Rattle.rules.specs.declared.Survey.{Survey}
+use Rattle.period.specs.Period.{surveyC, surveyL, beats}
+
+module _ (t : Survey) (r : FlaggedPair) (e : r ≡ flaggedPair (concentrationOf (reading (t .pair .concentration))) (flowOf (reading (t .pair .flow)))) where
+  pub concentration-is : r .concentration ≡ surveyC t
+  unfolding flaggedPair
+  concentration-is = ap (λ (f : FlaggedPair). f .concentration) e
+
+  pub flow-is : r .flow ≡ surveyL t
+  unfolding flaggedPair
+  flow-is = ap (λ (f : FlaggedPair). f .flow) e
+
+-- ---- an hour's flag: within the quarter, and past it
+pub beats-within : (flags : List ℕ) (h : ℕ) → h < 2_208 → eqb (getD flags h 0) 1 ≡ beats flags h
+unfolding beats
+beats-within flags h l = sym (ap (λ (t : Bool). t && eqb (getD flags h 0) 1) (lt-ltb h 2_208 l))
+
+pub beats-past : (flags : List ℕ) (h : ℕ) → 2_208 ≤ h → false ≡ beats flags h
+unfolding beats
+beats-past flags h l = sym (ap (λ (t : Bool). t && eqb (getD flags h 0) 1) (le-ltb h 2_208 l))
