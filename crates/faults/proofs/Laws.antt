@@ -1,7 +1,7 @@
 -- Faults in a row: the first of them, and what it says that there is none. Assumes nothing.
 use Prim.Native.Nat.{ℕ}
 use mathlib.Core.Bool.{Bool, true, false}
-use mathlib.Core.Path.{_≡_, refl, sym, ap, _∙_}
+use mathlib.Core.Path.{_≡_, refl, sym, ap, ap₂, _∙_}
 use native.Mathlib.Omega.{arith}
 use lib.Dec.{eqb}
 use Rattle.law.specs.Words.{need, pick}
@@ -25,6 +25,20 @@ first-fine f = refl
 pub first-refused : (number place : ℕ) (f : Fault) → eqb number 0 ≡ false → refuse number place ≡ first (refuse number place) f
 unfolding first refuse
 first-refused number place f e = need-false (refuse number place) (eqb number 0) f e
+
+-- the first of two faults, each by its own rule
+pub first-parts : (r f g f' g' : Fault) → r ≡ first f g → f ≡ f' → g ≡ g' → r ≡ first f' g'
+first-parts r f g f' g' e p q = e ∙ ap₂ first p q
+
+-- and where the first is a test of its own
+pub first-need : (number place : ℕ) (t : Bool) (g : Fault) → eqb number 0 ≡ false → first (need (refuse number place) t fine) g ≡ need (refuse number place) t g
+unfolding need
+first-need number place true g e = first-fine g
+first-need number place false g e = sym (first-refused number place g e)
+
+-- a test by another that is the same
+pub need-by : (n x : Fault) (t w : Bool) → t ≡ w → need n t x ≡ need n w x
+need-by n x t w e = ap (λ (u : Bool). need n u x) e
 
 -- a fault that refuses, or is fine: nothing fine after it changes it
 abbrev pub Stands : Fault → Type 0

@@ -1,4 +1,3 @@
--- Laws of judging, and what the proofs of the code lean on.
-pub mod Tests
+-- Laws of judging.
 pub mod Laws
 pub mod Only

@@ -7,7 +7,7 @@ use Rattle.law.specs.Words.{pick}
 use Rattle.rules.specs.declared.Fault.{Fault}
 use Rattle.law.proofs.Tests.{pick-le, pick-not-le}
 use Rattle.rules.specs.Judge.{fine, judgeEntry, judgeFuel}
-use Rattle.judge.proofs.Tests.{first-parts, first-need}
+use Rattle.faults.proofs.Laws.{first-parts, first-need}
 use borrow.Author.Needs.{needs}
 use Rattle.judge.proofs.ends.judge_fuel.Statement.{statement}
 use Rattle.judge.proofs.ends.judge_fuel.Tie as tie

@@ -1,0 +1,35 @@
+-- `judge_surveys::judge_enforcement` meets its contract: its tests are the rule's, taken together. Assumes nothing.
+use mathlib.Core.Path.{_∙_}
+use Rattle.rules.specs.Judge.{placeEnforcement}
+use Rattle.faults.proofs.Laws.{first-parts}
+use Rattle.judge_surveys.proofs.Places.{enforcement-place}
+use borrow.Author.Needs.{needs}
+use Rattle.judge_surveys.proofs.judge_enforcement.Statement.{statement}
+use Rattle.judge_surveys.proofs.judge_enforcement.Tie as tie
+
+in-place-requires : tie.Need-in-place-requires
+in-place-requires c κs = search needs
+
+refuse-unless-requires : tie.Need-refuse-unless-requires
+refuse-unless-requires c κs = search needs
+
+judge-survey-requires : tie.Need-judge-survey-requires
+judge-survey-requires c κs = search needs
+
+first-of-requires : tie.Need-first-of-requires
+first-of-requires c κs = search needs
+
+returns : tie.Need-returns
+unfolding placeEnforcement
+returns c =
+    first-parts _ _ _ _ _ (c .first-of .ensures) (c .before .before .refuse-unless .ensures ∙ enforcement-place _ _ _ _ _ _ _ _ _ (c .before .before .before .in-place .ensures)) (c .before .judge-survey .ensures)
+
+pub judge-enforcement-spec : {M : Type 1} → statement M
+judge-enforcement-spec =
+    tie.close
+    (tie.spec
+    in-place-requires
+    refuse-unless-requires
+    judge-survey-requires
+    first-of-requires
+    returns)

@@ -1,0 +1,54 @@
+// A survey judged: out of place 2, by its kind; then 3, 4, 5.
+use faults::refuse_unless;
+use rules::Fault;
+use rules::Survey;
+use rules::View;
+ghost use mathlib.Core.Bool.{_&&_};
+ghost use mathlib.Core.Path.{_≡_};
+ghost use lib.Dec.{leb, eqb};
+ghost use Rattle.rules.specs.Judge.{surveysLeft, judgeSurvey};
+ghost use Rattle.judge_surveys.specs.Surveys.{enforcementFault, plantFault};
+
+// Outside a line, before the last day, after fuel, hours not rising, one too many: "at most 120 surveys of both kinds together".
+fn in_place(v: View, floor: u32, hour: u16) -> bool
+    ensures { λ r. ⌜ r ≡ (v .inside && eqb (v .days) (v .head .days) && eqb (v .batches) 0 && leb floor hour && surveysLeft v) ⌝ }
+{
+    let phase = v.inside & (v.days == v.head.days as u32) & (v.batches == 0);
+    let left = (v.enforcement.count as u64) + (v.plant.count as u64) < 120;
+    phase & (hour as u32 >= floor) & left
+}
+
+// "Survey hour past the period", then its readings, then its hour: "survey in a stopped hour".
+fn judge_survey(place: usize, v: View, runs: &[u32], s: Survey) -> Fault
+    ensures { λ f. ⌜ f ≡ judgeSurvey place v (now (runs .entry)) s ⌝ }
+{
+    let pair = s.pair;
+    faults::first_of(
+        refuse_unless(3, place, (s.hour as u32) < 24 * (v.head.days as u32)),
+        faults::first_of(
+            day::judge_pair(place, pair),
+            refuse_unless(5, place, hours::runs_at(runs, s.hour)),
+        ),
+    )
+}
+
+// Kind 3: no plant survey before it.
+pub fn judge_enforcement(place: usize, v: View, runs: &[u32], s: Survey) -> Fault
+    ensures { λ f. ⌜ f ≡ enforcementFault place v (now (runs .entry)) s ⌝ }
+{
+    let placed = (v.plant.count == 0) & in_place(v, v.enforcement.floor, s.hour);
+    faults::first_of(
+        refuse_unless(2, place, placed),
+        judge_survey(place, v, runs, s),
+    )
+}
+
+// Kind 4.
+pub fn judge_plant(place: usize, v: View, runs: &[u32], s: Survey) -> Fault
+    ensures { λ f. ⌜ f ≡ plantFault place v (now (runs .entry)) s ⌝ }
+{
+    faults::first_of(
+        refuse_unless(2, place, in_place(v, v.plant.floor, s.hour)),
+        judge_survey(place, v, runs, s),
+    )
+}
