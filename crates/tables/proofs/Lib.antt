@@ -1,5 +1,3 @@
--- Laws of the tables, and what the proofs of their code lean on.
-pub mod Rows
-pub mod Classes
+-- Laws of the tables.
 pub mod Bounds
 pub mod Only

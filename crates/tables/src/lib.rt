@@ -6,8 +6,6 @@ use rules::DustEntry;
 use rules::Entry;
 use rules::Head;
 
-pub mod entries;
-
 // Formula 4 takes q and K.
 fn balance_of(q: Entry, k: Entry) -> Coefficients
     ensures { λ r. ⌜ r ≡ balanceOf q k ⌝ }
@@ -52,7 +50,7 @@ pub fn coefficients(h: Head) -> Coefficients
         );
     }
     if h.pollutant == 2 {
-        return oxides_of(entries::oxides_entry(h.furnace, h.mark, h.mw));
+        return oxides_of(table_a1::oxides_entry(h.furnace, h.mark, h.mw));
     }
-    dust_of(entries::dust_entry(h.furnace, h.coal, h.mw))
+    dust_of(table_a1::dust_entry(h.furnace, h.coal, h.mw))
 }

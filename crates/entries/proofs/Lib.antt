@@ -1,0 +1,3 @@
+-- What the proofs of the code lean on.
+pub mod Rows
+pub mod Only

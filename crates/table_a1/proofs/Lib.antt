@@ -1,0 +1,2 @@
+-- What the calls leave to be shown.
+pub mod Only

@@ -1,2 +1,0 @@
--- What the code of the tables holds.
-pub mod Rows
