@@ -1,2 +1,2 @@
--- The faces that C and Rust call.
+-- The account as C and Rust call it.
 pub mod Faces

@@ -1,12 +1,8 @@
 // The faces for C and Rust: the account, a panel's hour, the governing survey.
-ghost use mathlib.Core.Path.{_≡_};
-ghost use lib.ListN.{length};
 ghost use Rattle.survey.specs.Governing.{governing};
-ghost use Rattle.exports.specs.Faces.{AccountFace, hourOf, panelOf, PanelFace, PartFace};
-use panel::Panel;
-use reading::Hour;
+ghost use Rattle.faces.specs.Faces.{panelOf, PanelFace, PartFace};
+ghost use Rattle.exports.specs.Faces.{AccountFace};
 
-// The answer goes out in six cells, so that no caller depends on how a struct lies in memory.
 #[no_mangle]
 pub extern "C" fn quarter_account(
     file: &[u8],
@@ -18,31 +14,10 @@ pub extern "C" fn quarter_account(
     ensures { λ r. ⌜ AccountFace (now (file .entry)) (now (rows .entry)) (now (concentration .entry)) (now (flow .entry)) r (now (answer .exit)) (now (rows .exit)) (now (concentration .exit)) (now (flow .exit)) ⌝ }
 {
     let a = quarter::account(file, rows, concentration, flow);
-    *answer = [
-        a.number as u64,
-        a.place as u64,
-        a.rows as u64,
-        a.total1,
-        a.total2,
-        a.total3,
-    ];
+    *answer = faces::answer_cells(a);
     a.number
 }
 
-// Kind 0 is a stopped hour, 1 a missing one, 2 a measured one.
-fn hour_of(kind: u32, concentration: f32, flow: f32) -> Hour
-    ensures { λ r. ⌜ r ≡ hourOf kind concentration flow ⌝ }
-{
-    if kind == 0 {
-        return Hour::Stopped;
-    }
-    if kind == 1 {
-        return Hour::Missing;
-    }
-    Hour::Measured(concentration, flow)
-}
-
-// An unknown kind is refused before the state is looked at.
 #[no_mangle]
 pub extern "C" fn panel_hour(
     total: &mut f64,
@@ -54,35 +29,9 @@ pub extern "C" fn panel_hour(
 ) -> u32
     ensures { λ r. ⌜ PanelFace (panelOf (now (total .entry)) (now (hours .entry)) (now (missing .entry))) kind concentration flow r (now (total .exit)) (now (hours .exit)) (now (missing .exit)) ⌝ }
 {
-    if kind > 2 {
-        return 3;
-    }
-    let p = Panel {
-        total: *total,
-        hours: *hours,
-        missing: *missing,
-    };
-    let s = p.hour(hour_of(kind, concentration, flow));
-    let next = s.next;
-    *total = next.total;
-    *hours = next.hours;
-    *missing = next.missing;
-    s.number
+    faces::panel_hour(total, hours, missing, kind, concentration, flow)
 }
 
-// `part` is a slice here: a loop learns the length of no array behind a reference.
-fn copy_part(from: &[u8], part: &mut [u8])
-    requires { ⌜ (length (now from) ≡ 14) × (length (now part) ≡ 14) ⌝ }
-    ensures { λ _. ⌜ now (part .exit) ≡ now (from .entry) ⌝ }
-{
-    let mut i: usize = 0;
-    while i < 14 {
-        part[i] = from[i];
-        i += 1;
-    }
-}
-
-// An exported call hands no reference back, so the block is copied out.
 #[no_mangle]
 pub extern "C" fn governing_survey_part<'a>(
     enforcement: &'a [u8],
@@ -92,10 +41,5 @@ pub extern "C" fn governing_survey_part<'a>(
 ) -> u32
     ensures { λ r. ⌜ PartFace (governing (enforcement .entry) (plant .entry) hour .bytes) (now (part .entry)) r (now (part .exit)) ⌝ }
 {
-    let block = survey::governing_survey(enforcement, plant, hour);
-    if block.len() == 14 {
-        copy_part(block, part);
-        return 14;
-    }
-    0
+    faces::survey_part(enforcement, plant, hour, part)
 }

@@ -1,6 +1,5 @@
--- `exports::quarter_account` meets its contract: it hands on what the account promises. Assumes nothing.
+-- `exports::quarter_account` meets its contract: it hands on what the account and the cells promise. Assumes nothing.
 use borrow.Author.Needs.{needs}
-use Rattle.exports.specs.Faces.{answerCells}
 use Rattle.exports.proofs.Laws.{account-face}
 use Rattle.exports.proofs.quarter_account.Statement.{statement}
 use Rattle.exports.proofs.quarter_account.Tie as tie
@@ -8,8 +7,8 @@ use Rattle.exports.proofs.quarter_account.Tie as tie
 account-requires : tie.Need-account-requires
 account-requires c κs = search needs
 
-cast-t13 : tie.Need-cast-t13
-cast-t13 c = search needs
+answer-cells-requires : tie.Need-answer-cells-requires
+answer-cells-requires c κs = search needs
 
 same-length : tie.Need-same-length
 same-length c = search needs
@@ -21,9 +20,9 @@ same-length-3 : tie.Need-same-length-3
 same-length-3 c = search needs
 
 returns : tie.Need-returns
-unfolding answerCells
-returns c = account-face _ _ _ _ _ _ _ _ (c .before .before .before .before .before .before .before .before .account .ensures)
+returns c = account-face _ _ _ _ _ _ _ _ _ (c .before .before .before .before .before .before .before .account .ensures) (c .answer-cells .ensures)
 
 pub quarter-account-spec : {M : Type 1} → statement M
 quarter-account-spec =
-    tie.close (tie.spec account-requires cast-t13 same-length same-length-2 same-length-3 returns)
+    tie.close
+    (tie.spec account-requires answer-cells-requires same-length same-length-2 same-length-3 returns)

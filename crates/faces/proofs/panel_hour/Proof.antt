@@ -1,9 +1,9 @@
--- `exports::panel_hour` meets its contract: an unknown kind leaves the state, and any other hands on what the panel's hour promises. Assumes nothing.
+-- `faces::panel_hour` meets its contract: an unknown kind leaves the state, and any other hands on what the panel's hour promises. Assumes nothing.
 use native.Mathlib.Omega.{arith}
 use borrow.Author.Needs.{needs}
-use Rattle.exports.proofs.Laws.{no-kind, some-kind}
-use Rattle.exports.proofs.panel_hour.Statement.{statement}
-use Rattle.exports.proofs.panel_hour.Tie as tie
+use Rattle.faces.proofs.Laws.{no-kind, some-kind}
+use Rattle.faces.proofs.panel_hour.Statement.{statement}
+use Rattle.faces.proofs.panel_hour.Tie as tie
 
 returns : tie.Need-returns
 returns c = no-kind _ _ _ _ (omega arith)

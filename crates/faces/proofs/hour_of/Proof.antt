@@ -1,8 +1,8 @@
--- `exports::hour_of` meets its contract: each way out is the rule's case at the tests that led there. Assumes nothing.
+-- `faces::hour_of` meets its contract: each way out is the rule's case at the tests that led there. Assumes nothing.
 use Rattle.law.proofs.Tests.{judged}
-use Rattle.exports.specs.Faces.{hourOf}
-use Rattle.exports.proofs.hour_of.Statement.{statement}
-use Rattle.exports.proofs.hour_of.Tie as tie
+use Rattle.faces.specs.Faces.{hourOf}
+use Rattle.faces.proofs.hour_of.Statement.{statement}
+use Rattle.faces.proofs.hour_of.Tie as tie
 
 returns : tie.Need-returns
 unfolding hourOf

@@ -1,0 +1,2 @@
+-- The faces that C and Rust call, beside the account.
+pub mod Faces
