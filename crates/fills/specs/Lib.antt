@@ -1,4 +1,3 @@
 -- Document 01, "Fills" and formula 2, over the work slices.
 pub mod Gaps
-pub mod Parts
 pub mod Weights

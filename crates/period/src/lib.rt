@@ -78,7 +78,7 @@ fn fill_line(runs: &[u32; 92], measured: &[u32; 92], days: u8, conc: &mut [u32],
     let mut states = [0u8; 2208];
     hours::hour_states(runs, measured, days, &mut states);
     let n = 24 * (days as usize);
-    fills::fill_gaps(&states[0..n], conc, flow);
+    gaps::fill_gaps(&states[0..n], conc, flow);
 }
 
 // "Fills under method 1 only", and the first missing hour plus 1: a line that lacks no hour has nothing to fill.

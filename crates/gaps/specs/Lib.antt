@@ -1,0 +1,2 @@
+-- What the walk over the gaps promises of one of them.
+pub mod Parts

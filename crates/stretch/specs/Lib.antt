@@ -1,0 +1,2 @@
+-- One stretch of hours.
+pub mod Stretch
