@@ -19,7 +19,8 @@ use Rattle.rules.specs.Row.{rowOf, rowsOf, totalOf, held, cells, concentrationC
 use Rattle.rules.specs.Judge.{refuse, fine, first, key, placeHead, rangeHead, placeDay, straysOf, rangeMasks, accepted, judgePair, judgeBlank, judgeHour, judgeHours, judgeDay, surveysLeft, placeEnforcement, placePlant, judgeStopped, judgeSurvey, placeBatch, rangeBatch, judgeEntry, placeEnd, judgeFuel, judge}
 use Rattle.rules.specs.Walk.{floorOf, surveysOf, viewOf, runsOf, begun, withDay, withEnforcement, withPlant, withBatch, takenBetween, takenInside, taken, ended, faultOf, walk, outcome}
 use Rattle.rules.specs.Account.{refusal, acceptance, rowsFit, workFits, answerFrom, answerOf, rowsFrom, rowsAfter, cellsFrom, workAfter}
-use Rattle.text.specs.Line.{decimalFrom, decimal, spaced, refusedLine, totalsLine}
+use Rattle.writing.specs.Numbers.{decimalFrom, decimal, spaced}
+use Rattle.text.specs.Line.{refusedLine, totalsLine}
 use Rattle.printed.specs.Program.{rowLines, totalLine, printedFrom, printed}
 
 -- "Head: stack 1, pollutant 2, required 1, furnace 1, coal 4, 300 MW, mark 1, one day. Day 0: run hours 0-3, measured 0, 1, 3 with 20, 30, 41 mg/m3 and

@@ -1,5 +1,5 @@
 -- The texts of an answer are what the definition gives for the file. Assumes nothing.
-use mathlib.Core.Path.{_≡_, refl, sym, ap, ap₂, _∙_, subst}
+use mathlib.Core.Path.{_≡_, refl, sym, ap, ap₂, _∙_}
 use mathlib.Core.List.{List, [], _∷_, _++_, append-assoc}
 use Prim.Native.Nat.{ℕ, _<_, _≤_}
 use native.Mathlib.Omega.{arith}
@@ -14,16 +14,13 @@ use Rattle.rules.specs.Walk.{outcome}
 use Rattle.rules.specs.Account.{refusal, acceptance, workFits, Promise}
 use Rattle.answers.proofs.Rows.{row-behind}
 use Rattle.answers.proofs.Answers.{stated, denied}
-use Rattle.text.specs.Line.{spaced, refusedLine}
+use Rattle.writing.specs.Numbers.{spaced}
+use Rattle.text.specs.Line.{refusedLine}
 use Rattle.text.specs.Text.{Text, rowsText, statedText, statedLines}
-use Rattle.text.proofs.Wrote.{text-within}
-use Rattle.text.proofs.Texts.{all-there}
+use Rattle.text.proofs.Texts.{text-as, text-within, all-there}
 use Rattle.printed.specs.Program.{rowLines, totalLine, printedFrom, printed}
 
 -- a text by other words for its bytes, which stand in the buffer
-pub text-as : (xs ys old new : List ℕ) (r : ℕ) → xs ≡ ys → Text xs old new r → Text ys old new r
-text-as xs ys old new r e t = subst (λ (bytes : List ℕ). Text bytes old new r) e t
-
 pub text-of : (xs ys old new : List ℕ) (r : ℕ) → xs ≡ ys → Text xs old new r → Text ys old new r × (r ≤ length new)
 text-of xs ys old new r e t = (text-as xs ys old new r e t, text-within xs old new r t)
 

@@ -1,23 +1,18 @@
 -- What the calls that write a text into a lent buffer promise.
-use Prim.Native.Nat.{ℕ, zero, suc, _+_, _*_}
+use Prim.Native.Nat.{ℕ, zero, suc, _*_}
 use mathlib.Core.List.{List, [], _++_}
 use mathlib.Core.Path.{_≡_}
 use lib.ListN.{length, take, drop}
 use lib.Dec.{leb}
 use Rattle.law.specs.Words.{need}
-use Rattle.text.specs.Line.{spaced, totalsLine}
+use Rattle.writing.specs.Numbers.{spaced}
+use Rattle.text.specs.Line.{totalsLine}
 
 -- no text is longer than 8,192 bytes: into a shorter buffer nothing is written, and 0 bytes are counted; else exactly these bytes stand at its start, and
 -- the cells behind them are as they were
 pub record Text (bytes old new : List ℕ) (count : ℕ) : Type 0 where
   pub counts : count ≡ need 0 (leb 8_192 (length old)) (length bytes)
   pub says : new ≡ need old (leb 8_192 (length old)) (bytes ++ drop (length bytes) old)
-
--- bytes written from one place up to another, behind what stood before
-pub record Wrote (old : List ℕ) (from : ℕ) (bytes new : List ℕ) (to : ℕ) : Type 0 where
-  pub ends : to ≡ from + length bytes
-  pub says : take to new ≡ take from old ++ bytes
-  pub keeps : drop to new ≡ drop to old
 
 -- the texts of the first n rows
 unfoldable pub rowsText : List ℕ → ℕ → List ℕ

@@ -1,12 +1,12 @@
 // The texts that the program prints, written into a lent buffer: a refusal, or rows and totals.
-mod writing; // writing.rt
-
-use crate::writing::put_bytes;
-use crate::writing::put_rows;
-use crate::writing::put_spaced;
+ghost use Prim.Native.Nat.{_*_, _≤_};
+ghost use lib.ListN.{length};
 ghost use Rattle.rules.specs.Judge.{refuse};
+ghost use Rattle.writing.specs.Written.{Wrote};
 ghost use Rattle.text.specs.Line.{refusedLine};
-ghost use Rattle.text.specs.Text.{Text, statedLines};
+ghost use Rattle.text.specs.Text.{Text, rowsText, statedLines};
+use writing::put_bytes;
+use writing::put_spaced;
 
 // No text is longer: 48 rows of seven numbers, and a line of three.
 const LONGEST: usize = 8192;
@@ -21,6 +21,22 @@ pub fn refused_text(text: &mut [u8], number: u64, place: u64) -> usize
     let at = put_bytes(text, 0, b"refused ");
     let cells = [number, place];
     put_spaced(text, at, &cells)
+}
+
+// A line for each of the first n rows; a row of seven numbers is at most 148 bytes long.
+fn put_rows(text: &mut [u8], rows: &[u64], n: usize) -> usize
+    requires { ⌜ (7 * n ≤ length (now rows)) × (148 * n ≤ length (now text)) ⌝ }
+    ensures { λ r. ⌜ Wrote (now (text .entry)) 0 (rowsText (now (rows .entry)) n) (now (text .exit)) r ⌝ }
+{
+    let mut end: usize = 0;
+    let mut i: usize = 0;
+    while i < n {
+        let from = 7 * i;
+        let to = from + 7;
+        end = put_spaced(text, end, &rows[from..to]);
+        i += 1;
+    }
+    end
 }
 
 // One line a row, then the totals; 0 where the buffer could be too short, for more than 48 rows, and where one is not there.

@@ -1,7 +1,6 @@
 -- `text::refused_text` meets its contract. Assumes nothing.
 use borrow.Author.Needs.{needs}
-use Rattle.text.proofs.Wrote.{text-is, text-short}
-use Rattle.text.proofs.Texts.{refused-wrote}
+use Rattle.text.proofs.Texts.{text-short, refused-wrote}
 use Rattle.text.proofs.refused_text.Statement.{statement}
 use Rattle.text.proofs.refused_text.Tie as tie
 
@@ -27,7 +26,7 @@ returns-2 : tie.Need-returns-2
 returns-2 c =
     let s = c .before .before in
     let b = s .before .before .before .before .before in
-    text-is _ _ _ _ (b .before .before .before .if1 .left) (refused-wrote _ _ _ _ _ _ _ (b .put-bytes .ensures) (s .put-spaced .ensures .0))
+    refused-wrote _ _ _ _ _ _ _ (b .before .before .before .if1 .left) (b .put-bytes .kept .0) (b .put-bytes .ensures) (s .put-spaced .ensures)
 
 pub refused-text-spec : {M : Type 1} → statement M
 refused-text-spec =

@@ -1,7 +1,7 @@
 -- `text::stated_text` meets its contract, by its three tests in turn. Assumes nothing.
+use native.Mathlib.Omega.{arith}
 use borrow.Author.Needs.{needs}
-use Rattle.text.proofs.Wrote.{wrote-as, text-is, text-short, text-none}
-use Rattle.text.proofs.Texts.{stated-wrote, too-many, not-there, all-there}
+use Rattle.text.proofs.Texts.{text-as, text-short, text-none, stated-wrote, too-many, not-there, all-there}
 use Rattle.text.proofs.stated_text.Statement.{statement}
 use Rattle.text.proofs.stated_text.Tie as tie
 
@@ -38,9 +38,9 @@ returns-4 c =
     let b = s .before .before .before .before .before in
     let w = b .before .before .before .before .before in
     let t = w .before .before in
-    text-is _ _ _ _ (t .before .before .if1 .left)
-    (wrote-as _ _ _ _ _ _ (all-there _ _ _ (t .before .if2 .left) (t .if3 .left))
-    (stated-wrote _ _ _ _ _ _ _ _ _ _ (w .put-rows .ensures .0) (b .put-bytes .ensures) (s .put-spaced .ensures .0)))
+    text-as _ _ _ _ _ (all-there _ _ _ (t .before .if2 .left) (t .if3 .left))
+    (stated-wrote _ _ _ _ _ _ _ _ _ _ (t .before .before .if1 .left) (t .before .if2 .left) (w .put-rows .kept .0) (b .put-bytes .kept .0) (omega arith)
+    (w .put-rows .ensures) (b .put-bytes .ensures) (s .put-spaced .ensures))
 
 pub stated-text-spec : {M : Type 1} → statement M
 stated-text-spec =

@@ -1,12 +1,10 @@
--- `text::writing::put_rows` meets its contract. Assumes nothing.
+-- `text::put_rows` meets its contract. Assumes nothing.
 use Prim.Native.Nat.{_-_, _≤_}
 use native.Mathlib.Omega.{arith}
 use borrow.Author.Needs.{needs}
-use Rattle.text.proofs.Spaced.{Lining, lining-start, lining-on, lining-done}
-use Rattle.text.proofs.Texts.{part-long, part-is}
-use denote.Ref.{now}
-use Rattle.text.proofs.writing.put_rows.Statement.{statement}
-use Rattle.text.proofs.writing.put_rows.Tie as tie
+use Rattle.text.proofs.Rows.{Lining, lining-start, lining-on, lining-done}
+use Rattle.text.proofs.put_rows.Statement.{statement}
+use Rattle.text.proofs.put_rows.Tie as tie
 
 abbrev Inv-loop : tie.InvT-loop
 Inv-loop text₀ rows n end₀ i₀ text end i = Lining text₀ rows text end i × (i ≤ n)
@@ -36,7 +34,7 @@ part-put-spaced-end : tie.Need-part-put-spaced-end Inv-loop μ-loop
 part-put-spaced-end c = search needs
 
 put-spaced-requires : tie.Need-put-spaced-requires Inv-loop μ-loop
-put-spaced-requires c κs = let a = c .before .before .before in let l = part-long (now (a .before .before .before .args .rows)) (a .loop .i) (omega (arith, a .before .before .before .pre .0, c .before .before .loop-test .taken)) in (omega (arith, l), omega (arith, l, a .loop .inv .0 .below, a .loop .inv .0 .long, a .before .before .before .pre .1, c .before .before .loop-test .taken))
+put-spaced-requires c κs = search needs
 
 add-i : tie.Need-add-i Inv-loop μ-loop
 add-i c = search needs
@@ -45,7 +43,14 @@ loop-less : tie.Need-loop-less Inv-loop μ-loop
 loop-less c = omega arith
 
 loop-again : tie.Need-loop-again Inv-loop μ-loop
-loop-again c = let a = c .before .before .before .before .before .before in (lining-on _ _ _ _ _ _ _ _ (a .loop .inv .0) (part-is (now (a .before .before .before .args .rows)) (a .loop .i)) (part-long (now (a .before .before .before .args .rows)) (a .loop .i) (omega (arith, a .before .before .before .pre .0, c .before .before .before .before .before .loop-test .taken))) (c .before .before .put-spaced .kept .0) (c .before .before .put-spaced .ensures), omega (arith, c .before .before .before .before .before .loop-test .taken))
+loop-again c =
+    let n = c .before .before in
+    let t = n .before .before .before in
+    let a = t .before in
+    let s = a .before .before .before in (
+      lining-on _ _ _ _ _ _ _ (a .loop .inv .0) (omega (arith, s .pre .0, t .loop-test .taken)) (omega (arith, s .pre .1, t .loop-test .taken)) (n .put-spaced .kept .0) (n .put-spaced .ensures),
+      omega (arith, t .loop-test .taken),
+    )
 
 same-length : tie.Need-same-length Inv-loop μ-loop
 same-length c = c .before .loop .inv .0 .long

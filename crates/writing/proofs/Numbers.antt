@@ -6,13 +6,14 @@ use Prim.Native.Nat.{ℕ, zero, suc, _+_, _-_, _*_, _/_, _%_, _^_, _<_, _≤_}
 use native.Mathlib.Omega.{arith}
 use lib.ListN.{length, take, length-take}
 use lib.Pow.{pow-add}
-use lib.Dec.{leb}
+use lib.Dec.{leb, ltb}
 use borrow.Author.Tests.{lt-ltb, le-ltb, leb-true, leb-false}
 use Rattle.law.specs.Words.{pick}
+use Rattle.law.proofs.Tests.{pick-case}
 use Rattle.io.specs.Digits.{digits, glyph, Fewest}
-use Rattle.text.specs.Line.{decimalFrom, decimal}
-use Rattle.text.specs.Text.{Wrote}
-use Rattle.text.proofs.Wrote.{wrote-on, wrote-as}
+use Rattle.writing.specs.Numbers.{decimalFrom, decimal}
+use Rattle.writing.specs.Written.{Wrote, Put}
+use Rattle.writing.proofs.Wrote.{wrote-on, wrote-as}
 
 digit : (n : ℕ) → glyph (n % 10) ≡ 48 + n % 10
 digit n = ap (λ (t : Bool). cond t (48 + n % 10) (87 + n % 10)) (lt-ltb (n % 10) 10 (omega arith))
@@ -46,7 +47,7 @@ decimal-is n zero l f = absurd (omega (arith, f .0))
 decimal-is n (suc k) l f = from-digits k 20 n [] l f ∙ append-nil (digits 10 (suc k) n)
 
 -- a u64 has at most 20 digits
-pub most-20 : (n k : ℕ) → n < 2 ^ 64 → Fewest 10 1 n k → k ≤ 20
+most-20 : (n k : ℕ) → n < 2 ^ 64 → Fewest 10 1 n k → k ≤ 20
 most-20 n k l f = by (leb k 20) refl
   where
     by : (t : Bool) → leb k 20 ≡ t → k ≤ 20
@@ -56,14 +57,32 @@ most-20 n k l f = by (leb k 20) refl
         let high : 10 ^ 20 * 10 ^ (k - 21) ≤ n = subst (λ (v : ℕ). v ≤ n) (ap (λ (i : ℕ). 10 ^ i) j ∙ pow-add 10 20 (k - 21)) (f .2 (omega (arith, leb-false k 20 e))) in
         absurd (omega (arith, high, ones-some (k - 21), l))
 
+-- so there is room for its digits where there are 21 bytes
+pub digits-wrote : (old text out : List ℕ) (at end n k : ℕ) → n < 2 ^ 64 → Fewest 10 1 n k → k ≤ length out → at + 21 ≤ length old
+    → Put (length (take (k - 0) out)) old at (take (k - 0) out) text end → (Wrote old at (take (k - 0) out) text end) × (end ≤ at + 20)
+digits-wrote old text out at end n k u f b l p =
+    let few : length (take (k - 0) out) ≤ 20 = omega (arith, length-take (k - 0) out, b, most-20 n k u f) in
+    let w = p .fits (omega (arith, few, l)) in
+    (w, omega (arith, few, w .ends))
+
 -- the first k digits written, and the byte behind them
-pub number-wrote : (old text new out : List ℕ) (at end r n k after : ℕ) → n < 2 ^ 64 → Fewest 10 1 n k → take k out ≡ digits 10 k n → k ≤ length out
-    → Wrote old at (take (k - 0) out) text end → Wrote text end (after ∷ []) new r → (Wrote old at (decimal n ++ (after ∷ [])) new r) × (r ≤ at + 21)
-number-wrote old text new out at end r n k after u f d b p q =
+pub number-wrote : (old text new out : List ℕ) (at end r n k after : ℕ) → n < 2 ^ 64 → Fewest 10 1 n k → take k out ≡ digits 10 k n
+    → Wrote old at (take (k - 0) out) text end → Wrote text end (after ∷ []) new r → Wrote old at (decimal n ++ (after ∷ [])) new r
+number-wrote old text new out at end r n k after u f d p q =
     let l = most-20 n k u f in
     let e : k - 0 ≡ k = omega arith in
-    let is : take (k - 0) out ≡ decimal n = ap (λ (j : ℕ). take j out) e ∙ d ∙ sym (decimal-is n k l f) in (
-      wrote-as old new (take (k - 0) out ++ (after ∷ [])) (decimal n ++ (after ∷ [])) at r (ap (λ (x : List ℕ). x ++ (after ∷ [])) is)
-          (wrote-on old text new (take (k - 0) out) (after ∷ []) at end r p q),
-      omega (arith, p .ends, q .ends, length-take (k - 0) out, b, l),
-    )
+    let is : take (k - 0) out ≡ decimal n = ap (λ (j : ℕ). take j out) e ∙ d ∙ sym (decimal-is n k l f) in
+    wrote-as old new (take (k - 0) out ++ (after ∷ [])) (decimal n ++ (after ∷ [])) at r (ap (λ (x : List ℕ). x ++ (after ∷ [])) is)
+    (wrote-on old text new (take (k - 0) out) (after ∷ []) at end r p q)
+
+-- and a number is at most 20 bytes long
+from-most : (places n : ℕ) (t : List ℕ) → length (decimalFrom places n t) ≤ places + length t
+unfolding decimalFrom
+from-most zero n t = omega arith
+from-most (suc p) n t =
+    let text = (48 + n % 10) ∷ t in
+    pick-case (λ x. length x ≤ suc p + length t) (ltb n 10) text (decimalFrom p (n / 10) text) (λ h. omega arith) (λ h. omega (arith, from-most p (n / 10) text))
+
+pub decimal-most : (n : ℕ) → length (decimal n) ≤ 20
+unfolding decimal
+decimal-most n = omega (arith, from-most 20 n [])

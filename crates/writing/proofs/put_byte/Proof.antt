@@ -1,8 +1,8 @@
--- `text::writing::put_byte` meets its contract. Assumes nothing.
+-- `writing::put_byte` meets its contract. Assumes nothing.
 use borrow.Author.Needs.{needs}
-use Rattle.text.proofs.writing.put_byte.Statement.{statement}
-use Rattle.text.proofs.writing.put_byte.Tie as tie
-use Rattle.text.proofs.Wrote.{wrote-byte}
+use Rattle.writing.proofs.put_byte.Statement.{statement}
+use Rattle.writing.proofs.put_byte.Tie as tie
+use Rattle.writing.proofs.Wrote.{wrote-byte}
 
 slice-write-text : tie.Need-slice-write-text
 slice-write-text c = search needs

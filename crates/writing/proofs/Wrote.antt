@@ -1,16 +1,12 @@
 -- Bytes written one behind the other. Assumes nothing.
-use mathlib.Core.Path.{_≡_, refl, sym, ap, ap₂, _∙_, subst}
+use mathlib.Core.Path.{_≡_, refl, sym, ap, _∙_, subst}
 use mathlib.Core.List.{List, [], _∷_, _++_, append-nil, append-assoc}
 use Prim.Native.Nat.{ℕ, suc, _+_, _-_, _<_, _≤_}
 use native.Mathlib.Nat.{add-zero}
 use native.Mathlib.Omega.{arith}
-use mathlib.Core.Bool.{Bool, true, false}
-use lib.Dec.{leb}
-use Rattle.law.specs.Words.{need}
-use lib.ListN.{length, take, drop, set, getD, length-append, length-set, take-append-drop}
+use lib.ListN.{length, take, drop, set, getD, length-append, length-set}
 use lib.Seq.{take-suc, take-suc-set, drop-set-lt, drop-drop, take-length}
-use Rattle.law.proofs.Tests.{need-le, need-not-le, need-case}
-use Rattle.text.specs.Text.{Text, Wrote}
+use Rattle.writing.specs.Written.{Wrote, Put}
 
 pub wrote-none : (old : List ℕ) (at : ℕ) → Wrote old at [] old at
 wrote-none old at = record { ends = omega arith; says = sym (append-nil (take at old)); keeps = refl }
@@ -40,6 +36,13 @@ wrote-on a b c xs ys i j k p q =
 
 pub wrote-as : (a b xs ys : List ℕ) (i j : ℕ) → xs ≡ ys → Wrote a i xs b j → Wrote a i ys b j
 wrote-as a b xs ys i j e p = subst (λ (t : List ℕ). Wrote a i t b j) e p
+
+-- ---- room for the bytes, or none
+pub put-fits : (room : ℕ) (old bytes new : List ℕ) (from to : ℕ) → from + room ≤ length old → Wrote old from bytes new to → Put room old from bytes new to
+put-fits room old bytes new from to l w = record { fits = λ m. w; none = λ m. absurd (omega (arith, l, m)) }
+
+pub put-none : (room : ℕ) (old bytes : List ℕ) (from : ℕ) → length old < from + room → Put room old from bytes old from
+put-none room old bytes from l = record { fits = λ m. absurd (omega (arith, l, m)); none = λ m. (refl, refl) }
 
 -- ---- a loop that writes the bytes of a list: the first i are written
 pub record Copying (old : List ℕ) (at : ℕ) (bytes text : List ℕ) (i : ℕ) : Type 0 where
@@ -72,36 +75,3 @@ copying-done old text bytes at i p l =
     let e : i ≡ length bytes = omega (arith, p .most, l) in
     subst (λ (k : ℕ). Wrote old at bytes text (at + k)) e
     (wrote-as old text (take i bytes) bytes at (at + i) (ap (λ (k : ℕ). take k bytes) e ∙ take-length bytes) (p .wrote))
-
--- ---- a text from the start of the buffer
-pub text-is : (bytes old new : List ℕ) (r : ℕ) → 8_192 ≤ length old → Wrote old 0 bytes new r → Text bytes old new r
-text-is bytes old new r l p =
-    let n : r ≡ length bytes = omega (arith, p .ends) in
-    record {
-      counts = need-le 0 (length bytes) r 8_192 (length old) l n;
-      says =
-          need-le old (bytes ++ drop (length bytes) old) new 8_192 (length old) l
-          (sym (take-append-drop r new) ∙ ap₂ (λ (a b : List ℕ). a ++ b) (p .says) (p .keeps ∙ ap (λ (k : ℕ). drop k old) n));
-    }
-
-pub text-short : (bytes old : List ℕ) → length old < 8_192 → Text bytes old old 0
-text-short bytes old l = record { counts = need-not-le 0 (length bytes) 8_192 (length old) l; says = need-not-le old (bytes ++ drop (length bytes) old) 8_192 (length old) l }
-
--- no bytes: the buffer as it is
-pub text-none : (bytes old : List ℕ) → [] ≡ bytes → Text bytes old old 0
-text-none bytes old e =
-    let fits = leb 8_192 (length old) in
-    subst (λ (t : List ℕ). Text t old old 0) e
-    (record {
-      counts = need-case (λ (k : ℕ). 0 ≡ k) 0 fits 0 (λ h. refl) (λ h. refl);
-      says = need-case (λ (t : List ℕ). old ≡ t) old fits old (λ h. refl) (λ h. refl);
-    })
-
--- the bytes counted stand in the buffer
-pub text-within : (bytes old new : List ℕ) (r : ℕ) → Text bytes old new r → r ≤ length new
-unfolding need
-text-within bytes old new r t = within-by (leb 8_192 (length old)) (t .counts) (t .says)
-  where
-    within-by : (fits : Bool) → r ≡ need 0 fits (length bytes) → new ≡ need old fits (bytes ++ drop (length bytes) old) → r ≤ length new
-    within-by true c s = omega (arith, c, ap length s, length-append bytes (drop (length bytes) old))
-    within-by false c s = omega (arith, c)
