@@ -117,7 +117,7 @@ impl Panel {
             return self.refuse(11);
         }
         match h {
-            Hour::Measured(c, l) => self.measure(reading::concentration(c), reading::flow(l)),
+            Hour::Measured(c, l) => self.measure(rounding::concentration(c), rounding::flow(l)),
             Hour::Missing => {
                 self.missing += 1;
                 self.count()
