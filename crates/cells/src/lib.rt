@@ -2,6 +2,7 @@
 ghost use mathlib.Core.Path.{_≡_};
 ghost use Prim.Native.Nat.{min};
 ghost use lib.ListN.{length, getD};
+ghost use lib.Dec.{leb};
 ghost use Rattle.law.specs.Words.{table, over};
 
 // Every cell becomes 0.
@@ -13,6 +14,28 @@ pub fn clear(cells: &mut [u32])
         cells[i] = 0;
         i += 1;
     }
+}
+
+// The first n cells become 0, or all where there are fewer.
+pub fn clear_first(cells: &mut [u32], n: usize)
+    ensures { λ _. ⌜ now (cells .exit) ≡ over (λ h. 0) (min n (length (now (cells .entry)))) (now (cells .entry)) ⌝ }
+{
+    let m = lesser(n, cells.len());
+    clear(&mut cells[0..m]);
+}
+
+// "The first 2,208 work cells become zero." "Cells past 2,208 are never written."
+pub fn clear_quarter(cells: &mut [u32])
+    ensures { λ _. ⌜ now (cells .exit) ≡ over (λ h. 0) (min 2208 (length (now (cells .entry)))) (now (cells .entry)) ⌝ }
+{
+    clear_first(cells, 2208);
+}
+
+// Whether a work slice has its 2,208 cells.
+pub fn holds_quarter(cells: &[u32]) -> bool
+    ensures { λ r. ⌜ r ≡ leb 2208 (length (now (cells .entry))) ⌝ }
+{
+    cells.len() >= 2208
 }
 
 // The lesser of two counts.

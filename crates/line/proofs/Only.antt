@@ -10,6 +10,9 @@ use Rattle.line.specs.Line.{gramsOf, rowIn}
 pub larger : (a b m n : ℕ) → m ≡ max a b → n ≡ max a b → m ≡ n
 larger a b m n p q = cc
 
+pub hours-of : (days a b : ℕ) → a ≡ 24 * days → b ≡ 24 * days → a ≡ b
+hours-of days a b p q = cc
+
 pub product : (c l a b : ℕ) → a ≡ c * l → b ≡ c * l → a ≡ b
 product c l a b p q = cc
 

@@ -1,4 +1,4 @@
-// The figures of a line: the larger sulphur, grams by weighed hours, the row, its share of a total.
+// The figures of a line: its hours, the larger sulphur, grams by weighed hours, the row, its share of a total.
 use rules::View;
 ghost use mathlib.Core.Path.{_≡_};
 ghost use Prim.Native.Nat.{_*_, max};
@@ -11,6 +11,13 @@ pub fn larger(a: u16, b: u16) -> u16
     ensures { λ r. ⌜ r ≡ max a b ⌝ }
 {
     if a <= b { b } else { a }
+}
+
+// "Hours count .. through the period": 24 a day.
+pub fn hours_of(days: u8) -> u32
+    ensures { λ r. ⌜ r ≡ 24 * days ⌝ }
+{
+    24 * (days as u32)
 }
 
 // c x l of an hour.

@@ -5,10 +5,10 @@ use mathlib.Core.List.{List, [], _++_}
 use Prim.Native.Nat.{ℕ, _+_, _-_, _*_, _<_, _≤_, min}
 use native.Mathlib.Omega.{arith}
 use lib.ListN.{length, take, drop, getD, length-append, length-drop}
-use lib.Seq.{take-at, drop-at, length-take-le}
+use lib.Seq.{take-at, drop-at}
 use lib.Dec.{leb}
 use borrow.Author.Tests.{le-leb, lt-leb, leb-true}
-use Rattle.law.specs.Words.{need, table, over}
+use Rattle.law.specs.Words.{need, over}
 use Rattle.law.proofs.Tables.{table-is}
 use Rattle.rules.specs.declared.Answer.{Answer}
 use Rattle.rules.specs.Lines.{Line}
@@ -18,14 +18,15 @@ use Rattle.rules.specs.Account.{refusal, acceptance, rowsFit, workFits, answerF
 use Rattle.answers.specs.Answers.{Stated}
 use Rattle.answers.proofs.Answers.{stated, denied}
 use Rattle.answers.proofs.Rows.{rows-long}
+use Rattle.cells.proofs.Parts.{first-all}
 use Rattle.walk.specs.Books.{noRows}
 use Rattle.walk.proofs.Going.{zeros}
 use Rattle.walk.proofs.Promises.{no-rows-long}
 
 -- the first 2,208 cells cleared hold no line's hours
-pub cleared : (xs ys : List ℕ) → 2_208 ≤ length xs → ys ≡ table (λ h. 0) (length (take 2_208 xs)) → ys ++ drop 2_208 xs ≡ cells [] ++ drop 2_208 xs
+pub cleared : (xs ys : List ℕ) → 2_208 ≤ length xs → ys ≡ over (λ h. 0) (min 2_208 (length xs)) xs → ys ≡ cells [] ++ drop 2_208 xs
 unfolding cells
-cleared xs ys l e = ap (λ (t : List ℕ). t ++ drop 2_208 xs) (e ∙ ap (table (λ h. 0)) (length-take-le 2_208 xs l) ∙ zeros 2_208)
+cleared xs ys l e = e ∙ first-all xs 2_208 l ∙ ap (λ (t : List ℕ). t ++ drop 2_208 xs) (zeros 2_208)
 
 -- the cells past 2,208 stand as they were
 past-kept : (cs xs ys : List ℕ) → ys ≡ cs ++ drop 2_208 xs → length ys ≡ length xs → 2_208 ≤ length xs → drop 2_208 ys ≡ drop 2_208 xs

@@ -25,8 +25,8 @@ fn too_few_rows(concentrations: &mut [u32], flows: &mut [u32]) -> Answer
         × (now (concentrations .exit) ≡ cells [] ++ drop 2208 (now (concentrations .entry)))
         × (now (flows .exit) ≡ cells [] ++ drop 2208 (now (flows .entry))) ⌝ }
 {
-    cells::clear(&mut concentrations[0..2208]);
-    cells::clear(&mut flows[0..2208]);
+    cells::clear_quarter(concentrations);
+    cells::clear_quarter(flows);
     TOO_FEW
 }
 

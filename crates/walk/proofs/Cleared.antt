@@ -1,15 +1,17 @@
 -- Cells past those that were used are 0, so that clearing these clears all. Assumes nothing.
-use mathlib.Core.Path.{_≡_, refl, sym, ap, ap₂, _∙_}
+use mathlib.Core.Path.{_≡_, refl, sym, ap, _∙_}
 use mathlib.Core.Bool.{Bool, true, false}
 use mathlib.Core.List.{List, _++_}
-use Prim.Native.Nat.{ℕ, _+_, _-_, _≤_}
+use Prim.Native.Nat.{ℕ, _+_, _-_, _≤_, min}
 use native.Mathlib.Omega.{arith}
-use lib.ListN.{length, take, drop, getD, replicate, length-append, length-drop, length-replicate, getD-replicate, List·getD-append, List·getD-eq-default}
-use lib.Seq.{getD-append-add, getD-drop, length-take-le}
+use lib.ListN.{length, drop, getD, replicate, length-append, length-drop, length-replicate, getD-replicate, List·getD-append, List·getD-eq-default}
+use lib.Seq.{getD-append-add, getD-drop}
 use lib.Dec.{ltb}
 use borrow.Author.Tests.{ltb-true, ltb-false}
 use Rattle.law.specs.Words.{table, over}
 use Rattle.law.proofs.Tables.{table-is, table-at, table-length}
+use Rattle.law.proofs.Over.{over-all}
+use Rattle.cells.proofs.Parts.{first-all}
 use Rattle.rules.specs.Row.{cells}
 
 zero-at : (m k : ℕ) (t : Bool) → ltb k m ≡ t → _≡_ {A = ℕ} (getD (replicate m 0) k 0) 0
@@ -45,8 +47,6 @@ module _ (xs : List ℕ) (n : ℕ) (past : (h : ℕ) → n ≤ h → getD xs h 0
       table-is (λ i. 0) 2_208 0 (over (λ i. 0) n xs) (length-append (table (λ i. 0) n) (drop n xs) ∙ omega (arith, table-length {A = ℕ} (λ i. 0) n, length-drop n xs, e, l))
       (λ k m. over-zero k (ltb k n) refl)
 
--- a part that is lent from the front and comes back written throughout
-pub front-back : (f : ℕ → ℕ) (xs ys : List ℕ) (n : ℕ) → n ≤ length xs → ys ≡ table f (length (take (n - 0) (drop 0 xs))) → take 0 xs ++ (ys ++ drop (n - 0) (drop 0 xs)) ≡ over f n xs
-front-back f xs ys n l e =
-    let z : n - 0 ≡ n = omega arith in
-    ap₂ (λ (t : List ℕ) (k : ℕ). t ++ drop k xs) (e ∙ ap (table f) (ap (λ (k : ℕ). length (take k xs)) z ∙ length-take-le n xs l)) z
+-- a work slice of 2,208 cells that is cleared
+pub zeroed : (xs zs : List ℕ) → length xs ≡ 2_208 → zs ≡ over (λ h. 0) (min 2_208 (length xs)) xs → zs ≡ table (λ h. 0) 2_208
+zeroed xs zs l e = e ∙ first-all xs 2_208 (omega (arith, l)) ∙ over-all (λ h. 0) 2_208 xs (omega (arith, l))

@@ -1,14 +1,13 @@
 -- The ways out of the account call, from what its walk promises. Assumes nothing.
-use mathlib.Core.Path.{_≡_, _∙_, ap}
-use mathlib.Core.Bool.{true, false}
+use mathlib.Core.Path.{_≡_, _∙_, sym, ap}
+use mathlib.Core.Bool.{Bool, true, false, not}
 use mathlib.Core.List.{List, [], _++_}
-use Prim.Native.Nat.{ℕ, _+_, _*_, _<_, _≤_}
+use Prim.Native.Nat.{ℕ, _+_, _*_, _<_, _≤_, min}
 use native.Mathlib.Omega.{arith}
 use lib.ListN.{length, drop, length-replicate}
 use lib.Dec.{leb}
-use borrow.Author.Tests.{le-leb, lt-leb}
+use borrow.Author.Tests.{le-leb, lt-leb, leb-true, leb-false, not-true, not-false}
 use Rattle.law.specs.Words.{need, over}
-use Rattle.law.proofs.Over.{over-all}
 use Rattle.rules.specs.declared.Answer.{Answer}
 use Rattle.rules.specs.Judge.{refuse}
 use Rattle.rules.specs.Row.{cells}
@@ -17,6 +16,7 @@ use Rattle.walk.specs.declared.turns.Tally.{Tally}
 use Rattle.walk.specs.declared.Walked.{Walked}
 use Rattle.walk.specs.Books.{noRows}
 use Rattle.walk.specs.Walking.{stopped, WalkPromise, Settled}
+use Rattle.walk.proofs.Cleared.{zeroed}
 use Rattle.walk.proofs.Going.{zeros}
 
 -- ---- 9: the work slices
@@ -31,6 +31,13 @@ short-conc c f a = rw (lt-leb 2_208 c a)
 pub short-flow : (c f : ℕ) → 2_208 ≤ c → f < 2_208 → workFits c f ≡ false
 unfolding workFits
 short-flow c f a b = rw (le-leb 2_208 c a, lt-leb 2_208 f b)
+
+-- a slice is held or not, as the test says
+pub not-held : (c : ℕ) (t : Bool) → t ≡ leb 2_208 c → not t ≡ true → c < 2_208
+not-held c t e n = leb-false 2_208 c (sym e ∙ not-true t n)
+
+pub held : (c : ℕ) (t : Bool) → t ≡ leb 2_208 c → not t ≡ false → 2_208 ≤ c
+held c t e n = leb-true 2_208 c (sym e ∙ not-false t n)
 
 module _ (file conc flow : List ℕ) where
   pub promise-9 : (r : Walked) → workFits (length conc) (length flow) ≡ false → r ≡ stopped (refuse 9 0) → Promise file noRows conc flow (r .answer) (r .rows) conc flow
@@ -51,9 +58,9 @@ module _ (file conc flow : List ℕ) where
       }
 
 -- cleared cells hold no line's hours
-pub cleared : (xs zs : List ℕ) → length xs ≡ 2_208 → zs ≡ over (λ h. 0) 2_208 xs → zs ≡ cells []
+pub cleared : (xs zs : List ℕ) → length xs ≡ 2_208 → zs ≡ over (λ h. 0) (min 2_208 (length xs)) xs → zs ≡ cells []
 unfolding cells
-cleared xs zs l e = e ∙ over-all (λ h. 0) 2_208 xs (omega (arith, l)) ∙ zeros 2_208
+cleared xs zs l e = zeroed xs zs l e ∙ zeros 2_208
 
 pub no-rows-long : length noRows ≡ 336
 unfolding noRows

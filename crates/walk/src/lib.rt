@@ -5,7 +5,6 @@ mod tables; // tables.rt
 mod turns; // turns.rt
 mod take; // take.rt
 
-use crate::tables::clear_both;
 use crate::turns::walk;
 use rules::Answer;
 use rules::Fault;
@@ -45,7 +44,8 @@ fn stop(f: Fault, conc: &mut [u32], flow: &mut [u32]) -> Walked
     requires { ⌜ (length (now conc) ≡ 2208) × (length (now flow) ≡ 2208) ⌝ }
     ensures { λ r. ⌜ (r ≡ stopped f) × (now (conc .exit) ≡ cells []) × (now (flow .exit) ≡ cells []) ⌝ }
 {
-    clear_both(conc, flow, 2208);
+    cells::clear_quarter(conc);
+    cells::clear_quarter(flow);
     refused(f)
 }
 
@@ -77,13 +77,13 @@ fn settle(file: &[u8], conc: &mut [u32], flow: &mut [u32]) -> Walked
 pub fn walk_file(file: &[u8], concentrations: &mut [u32], flows: &mut [u32]) -> Walked
     ensures { λ r. ⌜ Promise (now (file .entry)) noRows (now (concentrations .entry)) (now (flows .entry)) (r .answer) (r .rows) (now (concentrations .exit)) (now (flows .exit)) ⌝ }
 {
-    if concentrations.len() < 2208 {
+    if !cells::holds_quarter(concentrations) {
         return refused(Fault {
             number: 9,
             place: 0,
         });
     }
-    if flows.len() < 2208 {
+    if !cells::holds_quarter(flows) {
         return refused(Fault {
             number: 9,
             place: 0,

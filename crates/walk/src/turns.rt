@@ -2,7 +2,6 @@
 use crate::books::BEGIN;
 use crate::books::NO_SUMS;
 use crate::books::Sums;
-use crate::tables::clear_both;
 use crate::take::FINE;
 use crate::take::Taken;
 use crate::take::take;
@@ -122,7 +121,8 @@ pub fn walk(file: &[u8], out: &mut [u64; 336], conc: &mut [u32], flow: &mut [u32
     let mut runs = [0u32; 92];
     let mut measured = [0u32; 92];
     let mut flags = [0u32; 2208];
-    clear_both(conc, flow, 2208);
+    cells::clear_quarter(conc);
+    cells::clear_quarter(flow);
     let mut p = START;
     while p.at < file.len() {
         let q = step(

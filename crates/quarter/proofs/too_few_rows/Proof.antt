@@ -14,20 +14,8 @@ returns c =
     let second = c .before .before in
     let first = second .before .before .before .before in
     let start = first .before .before .before .before in
-    (refl, cleared (now (start .args .concentrations)) _ (start .pre .0) (first .clear .ensures), cleared (now (start .args .flows)) _ (start .pre .1) (second .clear2 .ensures))
+    (refl, cleared (now (start .args .concentrations)) _ (start .pre .0) (first .clear-quarter .ensures), cleared (now (start .args .flows)) _ (start .pre .1) (second .clear-quarter2 .ensures))
 
 pub too-few-rows-spec : {M : Type 1} → statement M
 too-few-rows-spec =
-    tie.close
-    (tie.spec
-    (λ c. search needs)
-    (λ c. search needs)
-    (λ c. search needs)
-    (λ c κs. search needs)
-    (λ c. search needs)
-    (λ c. search needs)
-    (λ c. search needs)
-    (λ c κs. search needs)
-    (λ c. search needs)
-    (λ c. search needs)
-    returns)
+    tie.close (tie.spec (λ c κs. search needs) (λ c κs. search needs) (λ c. search needs) (λ c. search needs) returns)

@@ -4,9 +4,9 @@ use Prim.Native.Nat.{_-_}
 use native.Mathlib.Omega.{arith}
 use lib.ListN.{length, replicate}
 use borrow.Author.Needs.{needs}
-use Rattle.law.proofs.Over.{over-all}
 use Rattle.rules.specs.Judge.{fine}
 use Rattle.walk.specs.Walking.{Reached}
+use Rattle.walk.proofs.Cleared.{zeroed}
 use Rattle.walk.proofs.Going.{reached-start, walk-promise}
 use denote.Ref.{now}
 use Rattle.walk.proofs.turns.walk.Statement.{statement}
@@ -22,10 +22,11 @@ abbrev μ-loop : tie.MeasureT-loop
 loop-holds : tie.Need-loop-holds Inv-loop μ-loop
 unfolding fine
 loop-holds c =
-    let k = c .before .before .before .before .clear-both .ensures in
-    let start = c .before .before .before .before .before .before .before .before .before .before in
+    let second = c .before .before in
+    let first = second .before .before .before .before in
+    let start = first .before .before .before .before .before in
     let p = start .pre in
-    (reached-start _ (replicate 92 0) (replicate 92 0) (replicate 2_208 0) _ _ _ _ refl refl refl (p .0) (k .0 ∙ over-all (λ h. 0) 2_208 (now (start .args .conc)) (omega (arith, p .1))) (k .1 ∙ over-all (λ h. 0) 2_208 (now (start .args .flow)) (omega (arith, p .2))) refl, omega arith, omega arith)
+    (reached-start _ (replicate 92 0) (replicate 92 0) (replicate 2_208 0) _ _ _ _ refl refl refl (p .0) (zeroed (now (start .args .conc)) _ (p .1) (first .clear-quarter .ensures)) (zeroed (now (start .args .flow)) _ (p .2) (second .clear-quarter2 .ensures)) refl, omega arith, omega arith)
 
 step-requires : tie.Need-step-requires Inv-loop μ-loop
 step-requires c κs = (c .before .before .before .before .before .before .before .before .loop .inv .0, c .before .before .before .before .before .before .if1 .taken)
@@ -37,10 +38,10 @@ loop-again : tie.Need-loop-again Inv-loop μ-loop
 loop-again c = let t = c .before .before .before .before in let i = t .before .before .before .before .before .before .before .before .before .loop .inv in (t .step .ensures .0, t .step .kept .1 .1 .1 .1 .1 .0 ∙ i .1, t .step .kept .1 .1 .1 .1 .1 .1 .0 ∙ i .2)
 
 same-length : tie.Need-same-length Inv-loop μ-loop
-same-length c = c .before .before .before .loop .inv .1 ∙ sym (c .before .before .before .before .before .before .before .before .before .before .before .before .before .before .pre .1)
+same-length c = c .before .before .before .loop .inv .1 ∙ sym (c .before .before .before .before .before .before .before .before .before .before .before .before .before .before .before .pre .1)
 
 same-length-2 : tie.Need-same-length-2 Inv-loop μ-loop
-same-length-2 c = c .before .before .before .loop .inv .2 ∙ sym (c .before .before .before .before .before .before .before .before .before .before .before .before .before .before .pre .2)
+same-length-2 c = c .before .before .before .loop .inv .2 ∙ sym (c .before .before .before .before .before .before .before .before .before .before .before .before .before .before .before .pre .2)
 
 returns : tie.Need-returns Inv-loop μ-loop
 returns c = walk-promise _ _ _ _ _ _ _ _ (c .before .before .before .loop .inv .0) (c .before .if1 .left) _ (c .found .ensures)
@@ -51,6 +52,7 @@ walk-spec =
     (tie.spec
     Inv-loop
     μ-loop
+    (λ c κs. search needs)
     (λ c κs. search needs)
     loop-holds
     step-requires
