@@ -3,20 +3,20 @@ use mathlib.Core.Path.{_≡_, refl, _∙_, sym, ap, ap₂}
 use mathlib.Core.List.{List}
 use Prim.Native.Nat.{ℕ, _-_, _*_, _≤_, min}
 use native.Mathlib.Omega.{arith}
-use lib.ListN.{length, take, drop, set}
-use lib.Seq.{take-at, set-out}
+use lib.ListN.{length, take, drop}
+use lib.Seq.{take-at}
 use Rattle.law.specs.Words.{table, over}
 use Rattle.law.proofs.Tables.{table-length}
-use Rattle.law.proofs.Tests.{both-true, pick-case}
+use Rattle.law.proofs.Tests.{both-true}
 use borrow.Author.Tests.{eqb-true, leb-true, eq-eqb, le-leb, ne-eqb}
-use mathlib.Core.Bool.{Bool, true, false}
+use mathlib.Core.Bool.{true, false}
 use Rattle.rules.specs.Hours.{firstMissing}
 use Rattle.hours.specs.States.{stateAt}
 use Rattle.hours.proofs.Whole.{no-missing-table}
 use Rattle.fills.specs.Gaps.{hoursInBoth, filledCells}
 use Rattle.fills.proofs.Filled.{filled-both}
 use Rattle.fills.proofs.Whole.{no-gap}
-use Rattle.period.specs.Period.{replacedCell, periodStates, isFilled}
+use Rattle.period.specs.Period.{periodStates, isFilled}
 
 -- the states of the period, as the part of them that is lent
 states-part : (runs measured : List ℕ) (days : ℕ) (cells st : List ℕ) → days ≤ 92 → length cells ≡ 2_208
@@ -56,8 +56,3 @@ filled-on method days conc flow m d c f = rw (eq-eqb method 1 m, le-leb days 92 
 pub filled-off : (method days : ℕ) (conc flow : List ℕ) → (method ≡ 1 → ⊥) → isFilled method days conc flow ≡ false
 unfolding isFilled
 filled-off method days conc flow m = rw (ne-eqb method 1 m) refl
-
--- an hour past the cells is not replaced
-pub replaced-past : (measured : Bool) (h v : ℕ) (cells : List ℕ) → length cells ≤ h → cells ≡ replacedCell measured h v cells
-replaced-past measured h v cells l =
-    pick-case (λ (t : List ℕ). cells ≡ t) measured (set cells h v) cells (λ _. sym (set-out cells h v l)) (λ _. refl)

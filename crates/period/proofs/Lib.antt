@@ -1,4 +1,3 @@
 -- Laws about a period's states and cells, which the layer above cites too.
 pub mod Filled
-pub mod Surveyed
 pub mod Only

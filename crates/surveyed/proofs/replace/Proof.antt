@@ -1,11 +1,10 @@
--- `period::replace` meets its contract: past the cells nothing is set. Assumes nothing.
+-- `surveyed::replace` meets its contract: past the cells nothing is set. Assumes nothing.
 use borrow.Author.Needs.{needs}
 use mathlib.Core.Path.{refl, sym, _∙_}
-use lib.Seq.{set-out}
-use Rattle.law.proofs.Tests.{pick-true, pick-false, pick-case}
-use Rattle.period.proofs.Filled.{replaced-past}
-use Rattle.period.proofs.replace.Statement.{statement}
-use Rattle.period.proofs.replace.Tie as tie
+use Rattle.law.proofs.Tests.{pick-true, pick-false}
+use Rattle.surveyed.proofs.Surveyed.{replaced-past}
+use Rattle.surveyed.proofs.replace.Statement.{statement}
+use Rattle.surveyed.proofs.replace.Tie as tie
 
 returns : tie.Need-returns
 returns c = replaced-past _ _ _ _ (c .if1 .taken)

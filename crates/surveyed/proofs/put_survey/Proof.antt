@@ -1,14 +1,14 @@
--- `period::put_survey` meets its contract. Assumes nothing.
+-- `surveyed::put_survey` meets its contract. Assumes nothing.
 use borrow.Author.Needs.{needs}
 use mathlib.Core.Path.{ap, ap₂, _∙_}
 use Prim.Native.Nat.{ℕ, _*_}
 use denote.Ref.{now}
 use Rattle.rules.specs.Hours.{runsAt}
-use Rattle.period.specs.declared.Weighed.{Weighed}
-use Rattle.period.specs.Period.{replacedCell}
-use Rattle.period.proofs.Surveyed.{concentration-is, flow-is}
-use Rattle.period.proofs.put_survey.Statement.{statement}
-use Rattle.period.proofs.put_survey.Tie as tie
+use Rattle.surveyed.specs.declared.Weighed.{Weighed}
+use Rattle.surveyed.specs.Put.{replacedCell}
+use Rattle.surveyed.proofs.Surveyed.{concentration-is, flow-is}
+use Rattle.surveyed.proofs.put_survey.Statement.{statement}
+use Rattle.surveyed.proofs.put_survey.Tie as tie
 
 returns : tie.Need-returns
 returns c =

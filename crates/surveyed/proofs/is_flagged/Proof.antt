@@ -1,8 +1,8 @@
--- `period::is_flagged` meets its contract. Assumes nothing.
+-- `surveyed::is_flagged` meets its contract. Assumes nothing.
 use borrow.Author.Needs.{needs}
-use Rattle.period.proofs.Surveyed.{beats-within, beats-past}
-use Rattle.period.proofs.is_flagged.Statement.{statement}
-use Rattle.period.proofs.is_flagged.Tie as tie
+use Rattle.surveyed.proofs.Surveyed.{beats-within, beats-past}
+use Rattle.surveyed.proofs.is_flagged.Statement.{statement}
+use Rattle.surveyed.proofs.is_flagged.Tie as tie
 
 returns : tie.Need-returns
 returns c = beats-past _ _ (c .if1 .taken)

@@ -1,0 +1,2 @@
+-- A survey put in at its hour.
+pub mod Put
