@@ -25,7 +25,7 @@ use Rattle.rules.specs.Walk.{begun, withDay, withEnforcement, withPlant, withBa
 use Rattle.fuel.specs.Fuel.{ashOf}
 use Rattle.walk.proofs.Cleared.{table-zero}
 use Rattle.walk.specs.declared.books.Sums.{Sums}
-use Rattle.period.specs.Period.{standing}
+use Rattle.surveyed.specs.Put.{standing}
 use Rattle.walk.specs.Views.{openedSums, withSurvey, withFuel}
 use Rattle.walk.specs.Books.{patched, plain, valuesAt, flagAt, Bounded, LineBooks}
 use Rattle.walk.proofs.Hours.{begun-zero, past-zero, day-before, day-own, enforcement-other, plant-other, plant-second, enforcement-own, plant-own, batch-same, measured-slot, unmeasured}
