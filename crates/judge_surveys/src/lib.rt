@@ -26,7 +26,7 @@ fn judge_survey(place: usize, v: View, runs: &[u32], s: Survey) -> Fault
     faults::first_of(
         refuse_unless(3, place, (s.hour as u32) < 24 * (v.head.days as u32)),
         faults::first_of(
-            day::judge_pair(place, pair),
+            day_hour::judge_pair(place, pair),
             refuse_unless(5, place, hours::runs_at(runs, s.hour)),
         ),
     )
