@@ -4,7 +4,6 @@ use mathlib.Core.Path.{ap, ap₂, _∙_}
 use Prim.Native.Nat.{ℕ, _*_}
 use denote.Ref.{now}
 use Rattle.rules.specs.Hours.{runsAt}
-use Rattle.surveyed.specs.declared.Weighed.{Weighed}
 use Rattle.surveyed.specs.Put.{replacedCell}
 use Rattle.surveyed.proofs.Surveyed.{concentration-is, flow-is}
 use Rattle.surveyed.proofs.put_survey.Statement.{statement}
