@@ -1,32 +1,20 @@
 -- "The panel keeps a running total as an f64, with its hours and missing hours, and each hour hands the next state back"; 12, 11, 4, 10.
-use Prim.Native.Nat.{ℕ, _+_, _*_, _/_, _%_, _^_}
-use mathlib.Core.Bool.{Bool, false, not, _&&_}
-use lib.Dec.{leb, ltb, eqb}
-use lib.IntN.{pos}
-use lib.Ieee.{Float, nan, inf, fin, up, down, binary64, ofInt}
+use Prim.Native.Nat.{ℕ, _+_, _*_, _^_}
+use mathlib.Core.Bool.{Bool}
+use lib.Dec.{leb, ltb}
+use lib.Ieee.{Float}
 use Rattle.law.specs.Words.{need}
 use Rattle.reading.specs.declared.Hour.{Hour}
 use Rattle.reading.specs.declared.Figures.{Figures}
 use Rattle.reading.specs.declared.Figures.the-variants.{Both, NoData, NotRunning, Unfit}
 use Rattle.reading.specs.Reading.{figuresOf}
+use Rattle.lawful.specs.Lawful.{whole, lawfulState, asTotal}
 use Rattle.panel.specs.declared.Panel.{Panel}
 use Rattle.panel.specs.declared.Stepped.{Stepped}
 
--- the whole number that a total stands for
-unfoldable pub whole : Float → ℕ
-whole nan = 0
-whole (inf negative) = 0
-whole (fin negative m e) = m * up e / down e
-
--- "total .. a whole number from +0 to 2^53"
-unfoldable pub lawfulTotal : Float → Bool
-lawfulTotal nan = false
-lawfulTotal (inf negative) = false
-lawfulTotal (fin negative m e) = not negative && eqb (m * up e % down e) 0 && leb (m * up e / down e) (2 ^ 53)
-
 -- 12: "total not a whole number from +0 to 2^53, hours over 2,208, missing over hours"
 unfoldable pub lawful : Panel → Bool
-lawful p = lawfulTotal (p .total) && leb (p .hours) 2_208 && leb (p .missing) (p .hours)
+lawful p = lawfulState (p .total) (p .hours) (p .missing)
 
 -- "with the state unchanged"
 unfoldable pub unchanged : ℕ → Panel → Stepped
@@ -35,10 +23,6 @@ unchanged number p = record { number = number; next = p }
 -- "1 to the hours"
 unfoldable pub counted : Panel → Float → ℕ → Stepped
 counted p total missing = record { number = 0; next = record { total = total; hours = p .hours + 1; missing = missing } }
-
--- "up to 2^53 the f64 total equals the whole number exactly": the f64 of a whole number
-unfoldable pub asTotal : ℕ → Float
-asTotal n = ofInt binary64 (pos n)
 
 -- 10: "panel total would pass 2^53"
 unfoldable pub added : Panel → ℕ → Stepped

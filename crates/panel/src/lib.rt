@@ -1,11 +1,14 @@
 // The panel: a running total of whole products in an f64, with its hours and missing hours.
 ghost use mathlib.Core.Path.{_≡_};
 ghost use mathlib.Core.Bool.{true};
-ghost use Prim.Native.Nat.{_<_};
+ghost use Prim.Native.Nat.{_*_, _<_};
 ghost use Rattle.reading.specs.Reading.{both};
-ghost use Rattle.panel.specs.Panel.{lawfulTotal, lawful, unchanged, counted, added, afterHour, panelStep, emptyPanel};
+ghost use Rattle.lawful.specs.Lawful.{lawfulTotal};
+ghost use Rattle.panel.specs.Panel.{unchanged, counted, added, afterHour, panelStep, emptyPanel};
+use lawful::lawful_state;
 use reading::Hour;
 use reading::Rounded;
+use sum::add_product;
 
 // "The panel keeps a running total as an f64, with its hours and missing hours."
 pub struct Panel {
@@ -20,22 +23,6 @@ pub struct Stepped {
     pub next: Panel,
 }
 
-// "A whole number from +0 to 2^53." Bits are compared: as floats minus zero equals zero.
-fn whole_total(t: f64) -> bool
-    ensures { λ r. ⌜ r ≡ lawfulTotal t ⌝ }
-{
-    if t > -1.0 {
-        if t < 18446744073709551616.0 {
-            let n = std::num::truncating_f64_to_u64(t);
-            if n <= 9_007_199_254_740_992 {
-                let back = n as f64;
-                return f64::to_bits(back) == f64::to_bits(t);
-            }
-        }
-    }
-    false
-}
-
 impl Panel {
     // A panel before any hour.
     pub fn new() -> Self
@@ -46,18 +33,6 @@ impl Panel {
             hours: 0,
             missing: 0,
         }
-    }
-
-    // 12: "total not a whole number from +0 to 2^53, hours over 2,208, missing over hours".
-    fn is_lawful(self) -> bool
-        ensures { λ r. ⌜ r ≡ lawful self ⌝ }
-    {
-        if whole_total(self.total) {
-            if self.hours <= 2208 {
-                return self.missing <= self.hours;
-            }
-        }
-        false
     }
 
     // "With the state unchanged."
@@ -79,16 +54,16 @@ impl Panel {
         }
     }
 
-    // 10. The limit is tested in whole numbers: as an f64, 2^53 + 1 is 2^53.
-    fn add(mut self, product: u64) -> Stepped
+    // 10, or the product added to the total.
+    fn add(mut self, c: u32, l: u32) -> Stepped
         requires { ⌜ (lawfulTotal (self .total) ≡ true) × (self .hours < 2208) ⌝ }
-        ensures { λ r. ⌜ r ≡ added self product ⌝ }
+        ensures { λ r. ⌜ r ≡ added self (c * l) ⌝ }
     {
-        let n = self.total as u64;
-        if product > 9_007_199_254_740_992 - n {
+        let s = add_product(self.total, c, l);
+        if s.refused {
             return self.refuse(10);
         }
-        self.total = self.total + (product as f64);
+        self.total = s.total;
         self.count()
     }
 
@@ -99,7 +74,7 @@ impl Panel {
     {
         match c {
             Rounded::Value(n) => match l {
-                Rounded::Value(k) => self.add((n as u64) * (k as u64)),
+                Rounded::Value(k) => self.add(n, k),
                 Rounded::Refused => self.refuse(4),
             },
             Rounded::Refused => self.refuse(4),
@@ -110,7 +85,7 @@ impl Panel {
     pub fn hour(mut self, h: Hour) -> Stepped
         ensures { λ r. ⌜ r ≡ panelStep self h ⌝ }
     {
-        if !self.is_lawful() {
+        if !lawful_state(self.total, self.hours, self.missing) {
             return self.refuse(12);
         }
         if self.hours >= 2208 {

@@ -14,18 +14,20 @@ use Rattle.panel.proofs.Laws.{lawful-total, missing-le, step-unlawful, 
 use Rattle.panel.proofs.Panel.hour.Statement.{statement}
 use Rattle.panel.proofs.Panel.hour.Tie as tie
 
-is-lawful-requires : tie.Need-is-lawful-requires
-is-lawful-requires c κs = search needs
+lawful-state-requires : tie.Need-lawful-state-requires
+lawful-state-requires c κs = search needs
 
 refuse-requires : tie.Need-refuse-requires
 refuse-requires c κs = search needs
 
 returns : tie.Need-returns
-returns c = c .refuse .ensures ∙ sym (step-unlawful _ _ (sym (c .before .before .is-lawful .ensures) ∙ not-true _ (c .before .if1 .taken)))
+unfolding lawful
+returns c = c .refuse .ensures ∙ sym (step-unlawful _ _ (sym (c .before .before .lawful-state .ensures) ∙ not-true _ (c .before .if1 .taken)))
 
 -- ---- past the first test the panel is lawful, past the second it has room
 law : (c : tie.Else1) → lawful (c .before .before .args .self) ≡ true
-law c = sym (c .before .is-lawful .ensures) ∙ not-false _ (c .if1 .left)
+unfolding lawful
+law c = sym (c .before .lawful-state .ensures) ∙ not-false _ (c .if1 .left)
 
 refuse-requires-2 : tie.Need-refuse-requires-2
 refuse-requires-2 c κs = search needs
@@ -95,7 +97,7 @@ pub hour-spec : {M : Type 1} → statement M
 hour-spec =
     tie.close
     (tie.spec
-    is-lawful-requires
+    lawful-state-requires
     refuse-requires
     returns
     refuse-requires-2

@@ -1,10 +1,7 @@
--- `panel::Panel::measure` meets its contract, by the two figures: the product of two u32 fits a u64. Assumes nothing.
+-- `panel::Panel::measure` meets its contract, by the two figures. Assumes nothing.
 use mathlib.Core.Path.{_≡_, _∙_, sym, ap, ap₂}
-use Prim.Native.Nat.{ℕ, _*_, _≤_}
-use native.Mathlib.Nat.{mul-le-mul}
-use native.Mathlib.Omega.{arith}
+use Prim.Native.Nat.{ℕ, _*_}
 use borrow.Author.Needs.{needs}
-use mir.Facts.{fits-le, fits-lit}
 use Rattle.reading.specs.Reading.{both}
 use Rattle.reading.specs.declared.Rounded.{Rounded}
 use Rattle.reading.specs.declared.Rounded.the-variants.{Value, Refused}
@@ -32,18 +29,6 @@ enum-known-c c = search needs
 
 enum-known-l : tie.Need-enum-known-l
 enum-known-l c = search needs
-
-cast-add : tie.Need-cast-add
-cast-add c = search needs
-
-cast-add-2 : tie.Need-cast-add-2
-cast-add-2 c = search needs
-
-mul-add : tie.Need-mul-add
-mul-add c =
-    let n : c .before .before .before .before .c .given .0 .0 ≤ 4_294_967_295 = omega arith in
-    let k : c .before .l .given .0 .0 ≤ 4_294_967_295 = omega arith in
-    fits-le (mul-le-mul n k) (fits-lit tt)
 
 add-requires : tie.Need-add-requires
 add-requires c κs = search needs
@@ -75,9 +60,6 @@ measure-spec =
     (tie.spec
     enum-known-c
     enum-known-l
-    cast-add
-    cast-add-2
-    mul-add
     add-requires
     enum-told
     refuse-requires
