@@ -47,11 +47,11 @@ module _ (c : tie.Else1) where
   top : whole t ≤ 2 ^ 53
   top = whole-le t fit lawfully
 
+product-le : (a b : ℕ) → a ≤ 4_294_967_295 → b ≤ 4_294_967_295 → a * b ≤ 4_294_967_295 * 4_294_967_295
+product-le a b h k = mul-le-mul h k
+
 mul-product : tie.Need-mul-product
-mul-product c =
-    let n : c .before .before .args .c ≤ 4_294_967_295 = omega arith in
-    let k : c .before .before .args .l ≤ 4_294_967_295 = omega arith in
-    fits-le (mul-le-mul n k) (fits-lit tt)
+mul-product c = fits-le (product-le _ _ (omega arith) (omega arith)) (fits-lit tt)
 
 float-to-int-n : tie.Need-float-to-int-n
 float-to-int-n c = castable _ (lawfully (c .before))
