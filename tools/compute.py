@@ -91,8 +91,9 @@ def main(args):
     for c in base:
         os.symlink(os.path.join(ROOT, 'crates', c), os.path.join(WORK, 'crates', c))
         lines.append('%s: %s' % (c, ' '.join(deps[c])))
-    base.append(definition('text', 'Line', 'law rules', lines))
-    base.append(definition('printed', 'Program', 'law rules text', lines))
+    base.append(definition('writing', 'Numbers', 'law', lines))
+    base.append(definition('text', 'Line', 'law rules writing', lines))
+    base.append(definition('printed', 'Program', 'law rules writing text', lines))
     uses, opened = names(base)
     for k in range(0, len(files), BATCH):
         c = 'computed%d' % (k // BATCH)
