@@ -1,35 +1,24 @@
--- No fill passes a limit that the valid values keep, so no entry does, and a sum of products is at most so many times the product of the limits. That a
+-- No fill passes a limit that the valid values keep, so no cell does, and a sum of products is at most so many times the product of the limits. That a
 -- list keeps a limit M is said as `largest s ≤ M`. Assumes nothing.
 use mathlib.Core.Path.{_≡_, refl, _∙_, sym, ap, subst}
 use mathlib.Core.List.{List, [], _∷_, _++_, reverse, reverse-cons}
-use Prim.Native.Nat.{ℕ, zero, suc, _+_, _*_, _<_, _≤_, max}
+use Prim.Native.Nat.{ℕ, suc, _+_, _*_, _<_, _≤_, max}
 use native.Mathlib.Nat.{mul-le-mul, suc-mul}
 use native.Mathlib.Omega.{arith}
-use lib.ListN.{length, getD, take, drop, take-append-drop, length-map}
+use lib.ListN.{length, getD, take, drop, take-append-drop}
 use lib.Dec.{eqb}
-use Rattle.law.specs.Words.{largest, sumOf}
+use Rattle.law.specs.Words.{largest}
 use Rattle.law.proofs.Tests.{pick-case}
 use Rattle.law.proofs.Tables.{table-at}
-use Rattle.rules.specs.Slots.{Slot, valid, missing, stopped, valids, entry, entries}
-use Rattle.rules.specs.Fill.{Values, zeroes, cs, ls, fill, meanUp, same, filled}
-use Rattle.rules.specs.Grams.{amount}
+use Rattle.rules.specs.Slots.{Slot, valid, missing, stopped, valids, entry}
 use Rattle.gap.proofs.Largest.{largest-append}
 use Rattle.gap.proofs.Bounds.{fill-most}
 use Rattle.fills.specs.Gaps.{slotAt, hoursIn, slotsIn, fillAt, cellAt, filledCells}
 use Rattle.fills.specs.Weights.{products}
-use Rattle.fills.proofs.Entries.{entries-length, valids-map}
 use Rattle.fills.proofs.States.{slots-length, slot-holds}
-use Rattle.fills.proofs.Alone.{cs-alone, ls-alone}
 use Rattle.fills.proofs.Filled.{filled-at}
-use Rattle.fills.proofs.Products.{products-amounts}
 
--- ---- a list keeps a limit where each of it does, and the other way
-pub each-largest : (s : List ℕ) (k : ℕ) → getD s k 0 ≤ largest s
-unfolding largest
-each-largest [] k = omega arith
-each-largest (v ∷ s) zero = omega arith
-each-largest (v ∷ s) (suc k) = omega (arith, each-largest s k)
-
+-- ---- a list keeps a limit where each of it does
 pub largest-each : (M : ℕ) (s : List ℕ) → ((k : ℕ) → k < length s → getD s k 0 ≤ M) → largest s ≤ M
 unfolding largest
 largest-each M [] p = omega arith
@@ -72,27 +61,6 @@ module _ (M : ℕ) where
       let split : (k : ℕ) → largest (valids slots) ≡ max (largest (valids (take k slots))) (largest (valids (drop k slots))) = λ k. ap (λ (t : List (Slot ℕ)). largest (valids t)) (sym (take-append-drop k slots)) ∙ most-append (take k slots) (drop k slots) in
       fill-most M _ _ _ (omega (arith, most-reverse (take h slots), split h)) (omega (arith, split (h + 1)))
 
-  -- ---- every entry
-  entry-most : (before : List (Slot ℕ)) (s : Slot ℕ) (after : List (Slot ℕ)) → largest (valids before) ≤ M → largest (valids (s ∷ after)) ≤ M
-      → entry (λ v. v) (fill meanUp same) 0 before s after ≤ M
-  unfolding entry valids largest
-  entry-most before (valid v) after b a = omega arith
-  entry-most before missing after b a = fill-most M _ _ _ b a
-  entry-most before stopped after b a = omega arith
-
-  pub entries-most : (before slots : List (Slot ℕ)) → largest (valids before) ≤ M → largest (valids slots) ≤ M
-      → largest (entries (λ v. v) (fill meanUp same) 0 before slots) ≤ M
-  unfolding entries largest
-  entries-most before [] b a = omega arith
-  entries-most before (s ∷ after) b a =
-      let here = most-append (s ∷ []) before in
-      let there = most-append (s ∷ []) after in
-      omega (arith, entry-most before s after b a, entries-most (s ∷ before) after (omega arith) (omega arith))
-
-  pub line-most : (slots : List (Slot ℕ)) → largest (valids slots) ≤ M → largest (entries (λ v. v) (fill meanUp same) 0 [] slots) ≤ M
-  unfolding valids largest
-  line-most slots a = entries-most [] slots (omega arith) a
-
   -- ---- every cell, where every cell kept the limit
   pub filled-most : (states values : List ℕ) → ((k : ℕ) → k < hoursIn states values → getD values k 0 ≤ M)
       → (k : ℕ) → k < hoursIn states values → getD (filledCells states values) k 0 ≤ M
@@ -113,15 +81,3 @@ module _ (M N : ℕ) where
       let one : v * w ≤ M * N = mul-le-mul (omega arith) (omega arith) in
       let more = products-most xs ys (omega arith) (omega arith) in
       omega (arith, suc-mul (length xs) (M * N))
-
-  -- the amounts of a line whose valid hours keep both limits
-  pub amounts-most : (slots : List (Slot Values)) → largest (cs (valids slots)) ≤ M → largest (ls (valids slots)) ≤ N
-      → sumOf amount (entries (λ v. v) filled zeroes [] slots) ≤ length slots * (M * N)
-  unfolding cs ls
-  amounts-most slots x y =
-      let hours = entries (λ v. v) filled zeroes [] slots in
-      let size : length (cs hours) ≡ length slots = length-map hours (λ (v : Values). v .c) ∙ entries-length (λ v. v) filled zeroes [] slots in
-      let c : largest (cs hours) ≤ M = subst (λ (t : List ℕ). largest t ≤ M) (sym (cs-alone slots)) (line-most M _ (subst (λ (t : List ℕ). largest t ≤ M) (sym (valids-map (λ (v : Values). v .c) slots)) x)) in
-      let l : largest (ls hours) ≤ N = subst (λ (t : List ℕ). largest t ≤ N) (sym (ls-alone slots)) (line-most N _ (subst (λ (t : List ℕ). largest t ≤ N) (sym (valids-map (λ (v : Values). v .l) slots)) y)) in
-      subst (λ (n : ℕ). n ≤ length slots * (M * N)) (sym (products-amounts hours))
-      (subst (λ (n : ℕ). products (cs hours) (ls hours) ≤ n * (M * N)) size (products-most (cs hours) (ls hours) c l))

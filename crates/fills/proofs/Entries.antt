@@ -1,7 +1,7 @@
 -- What every hour holds, for any rule: how many entries there are, each by its hour, a function of each, and hours whose values are first turned into
 -- others. Assumes nothing.
 use mathlib.Core.Path.{_≡_, refl, _∙_, ap, ap₂}
-use mathlib.Core.List.{List, [], _∷_, _++_, map, reverse, reverseAux, reverseAux-eq}
+use mathlib.Core.List.{List, [], _∷_, map, reverse, reverseAux}
 use Prim.Native.Nat.{ℕ, zero, suc, _+_, _<_}
 use native.Mathlib.Omega.{arith}
 use lib.ListN.{length, getD, take, drop}
@@ -19,14 +19,6 @@ module _ {A B : Type 0} (own : A → B) (rule : ℕ → List A → List A → B)
   entries-aux before [] h d l = absurd (omega arith)
   entries-aux before (s ∷ after) zero d l = refl
   entries-aux before (s ∷ after) (suc h) d l = entries-aux (s ∷ before) after h d (omega arith)
-
-  -- an hour by its number
-  pub entries-at : (before slots : List (Slot A)) (h : ℕ) (d : B) → h < length slots
-      → getD (entries own rule nothing before slots) h d ≡ entry own rule nothing (reverse (take h slots) ++ before) (getD slots h stopped) (drop (h + 1) slots)
-  entries-at before slots h d l =
-      entries-aux before slots h d l
-      ∙ ap (λ (b : List (Slot A)). entry own rule nothing b (getD slots h stopped) (drop (suc h) slots)) (reverseAux-eq (take h slots) before)
-      ∙ ap (λ (k : ℕ). entry own rule nothing (reverse (take h slots) ++ before) (getD slots h stopped) (drop k slots)) (let e : suc h ≡ h + 1 = omega arith in e)
 
   -- the same of all hours of a line
   pub line-at : (slots : List (Slot A)) (h : ℕ) (d : B) → h < length slots

@@ -1,7 +1,7 @@
 -- What `fill_gaps` leaves in the slice is what the rule says of every hour, and nothing behind the hours is touched. Assumes nothing.
 use mathlib.Core.Path.{_≡_, refl, _∙_, sym, ap}
 use mathlib.Core.Bool.{Bool, true, false}
-use mathlib.Core.List.{List, [], map, reverse}
+use mathlib.Core.List.{List, [], reverse}
 use Prim.Native.Nat.{ℕ, _+_, _<_, _≤_}
 use native.Mathlib.Omega.{arith}
 use lib.ListN.{length, getD, take, drop, List·getD-append}
@@ -10,13 +10,12 @@ use lib.Dec.{eqb}
 use borrow.Author.Tests.{eqb-true, eqb-false}
 use Rattle.law.specs.Words.{table}
 use Rattle.law.proofs.Tests.{pick-eq, pick-not-eq}
-use Rattle.law.proofs.Over.{length-over, over-back}
+use Rattle.law.proofs.Over.{over-back}
 use Rattle.law.proofs.Tables.{table-length, table-at, table-is}
-use Rattle.rules.specs.Slots.{Slot, missing, stopped, mapSlot, entry, entries}
-use Rattle.rules.specs.Fill.{Values, zeroes, cs, ls, fill, meanUp, same, filled}
+use Rattle.rules.specs.Slots.{Slot, missing, stopped, entry, entries}
+use Rattle.rules.specs.Fill.{fill, meanUp, same}
 use Rattle.fills.specs.Gaps.{slotAt, hoursIn, hoursInBoth, slotsIn, fillAt, cellAt, filledCells}
 use Rattle.fills.proofs.Entries.{entries-length, line-at}
-use Rattle.fills.proofs.Alone.{cs-alone, ls-alone}
 use Rattle.fills.proofs.States.{hours-all, hours-all-both, slots-length, slot-valid, slot-missing, slot-stopped}
 
 -- both quantities are filled as each by itself, where every hour that has a state has both cells
@@ -28,14 +27,6 @@ filled-both states concentrations flows values c l m =
 module _ (states values : List ℕ) where
   abbrev n : ℕ
   n = hoursIn states values
-
-  hours-fit : n ≤ length values
-  unfolding hoursIn
-  hours-fit = omega arith
-
-  pub filled-length : length (filledCells states values) ≡ length values
-  unfolding filledCells
-  filled-length = length-over (cellAt states values) n values hours-fit
 
   pub filled-at : (h : ℕ) → h < hoursIn states values → getD (filledCells states values) h 0 ≡ cellAt states values h
   unfolding filledCells
@@ -86,12 +77,3 @@ module _ (states values : List ℕ) where
     pub filled-line : length states ≤ length values → length states ≤ 2_208
         → take (length states) (filledCells states values) ≡ entries (λ v. v) (fill meanUp same) 0 [] (slotsIn states values)
     filled-line l m = ap (λ (k : ℕ). take k (filledCells states values)) (sym (hours-all states values l m)) ∙ filled-is-entries
-
-    -- and where the hours are those of a line, its concentrations or its flows after the fills
-    pub filled-cs : (slots : List (Slot Values)) → slotsIn states values ≡ map (mapSlot (λ (v : Values). v .c)) slots
-        → take (hoursIn states values) (filledCells states values) ≡ cs (entries (λ v. v) filled zeroes [] slots)
-    filled-cs slots e = filled-is-entries ∙ ap (entries (λ v. v) (fill meanUp same) 0 []) e ∙ sym (cs-alone slots)
-
-    pub filled-ls : (slots : List (Slot Values)) → slotsIn states values ≡ map (mapSlot (λ (v : Values). v .l)) slots
-        → take (hoursIn states values) (filledCells states values) ≡ ls (entries (λ v. v) filled zeroes [] slots)
-    filled-ls slots e = filled-is-entries ∙ ap (entries (λ v. v) (fill meanUp same) 0 []) e ∙ sym (ls-alone slots)

@@ -22,9 +22,9 @@ use Rattle.rules.specs.Lines.{fuel}
 use Rattle.rules.specs.Grams.{sulphurOf, fuelTop, fuelBottom, fuelGrams}
 use Rattle.fuel.specs.declared.FuelFigure.{FuelFigure}
 use Rattle.fuel.specs.declared.FuelFigure.the-variants.{Grams, NoEntry}
-use Rattle.fuel.specs.Fuel.{ashOf, topOf, figureOf, fuelFigure}
+use Rattle.fuel.specs.Fuel.{ashOf, topOf, figureOf, fuelFigure, InRange}
 use Rattle.tables.proofs.Bounds.{small, coefficients-small}
-use Rattle.fuel.proofs.Batches.{InRange, top-is}
+use Rattle.fuel.proofs.Batches.{top-is}
 
 -- ---- the bounds of an entry, as numbers
 abbrev pub Small : Coefficients → Type 0
@@ -66,12 +66,13 @@ module _ (kg : ℕ) (few : kg ≤ 10_000_000_000) where
   pub dust-fits : (a b ash : ℕ) → a ≤ 936 → b ≤ 1_113 → ash ≤ 100_000_000_000_000 → a * ash + 100 * b * kg ≤ 94_713_000_000_000_000
   dust-fits a b ash l m n = omega (arith, a-fits a ash l n, b-fits b m)
 
--- ---- the document's range, by the code's tests
-pub in-range-tests : (kg sulphur ash : ℕ) → (leb kg 10_000_000_000 && leb sulphur 2_000 && leb ash 100_000_000_000_000) ≡ true → (kg ≤ 10_000_000_000) × (sulphur ≤ 2_000) × (ash ≤ 100_000_000_000_000)
-in-range-tests kg sulphur ash e =
-    let outer = both-true (leb kg 10_000_000_000 && leb sulphur 2_000) (leb ash 100_000_000_000_000) e in
-    let inner = both-true (leb kg 10_000_000_000) (leb sulphur 2_000) (outer .0) in
-    (leb-true _ _ (inner .0), leb-true _ _ (inner .1), leb-true _ _ (outer .1))
+-- ---- the document's range, by tests that are no wider
+pub in-range-tests : (kg sulphur ash k s a : ℕ) → (leb kg k && leb sulphur s && leb ash a) ≡ true → k ≤ 10_000_000_000 → s ≤ 2_000 → a ≤ 100_000_000_000_000
+    → (kg ≤ 10_000_000_000) × (sulphur ≤ 2_000) × (ash ≤ 100_000_000_000_000)
+in-range-tests kg sulphur ash k s a e l m n =
+    let outer = both-true (leb kg k && leb sulphur s) (leb ash a) e in
+    let inner = both-true (leb kg k) (leb sulphur s) (outer .0) in
+    (omega (arith, leb-true kg k (inner .0)), omega (arith, leb-true sulphur s (inner .1)), omega (arith, leb-true ash a (outer .1)))
 
 -- ---- the figure of an entry that the tables have
 pub by-entry : (h : Head) (kg sulphur ash : ℕ) (entry : Coefficients) (r : FuelFigure) → coefficientsOf h ≡ entry → r ≡ figureOf entry kg sulphur ash → r ≡ figureOf (coefficientsOf h) kg sulphur ash

@@ -1,5 +1,5 @@
 -- Balance, oxides and dust from what the code keeps of a line's batches: their kg, the largest sulphur, and the sum of kg x ash.
-use Prim.Native.Nat.{ℕ, _+_, _-_, _*_}
+use Prim.Native.Nat.{ℕ, _+_, _-_, _*_, _≤_}
 use mathlib.Core.List.{List}
 use lib.Dec.{leb}
 use Rattle.law.specs.Words.{need, sumOf, halvesUp}
@@ -8,13 +8,20 @@ use Rattle.rules.specs.declared.Batch.{Batch}
 use Rattle.rules.specs.declared.Coefficients.{Coefficients}
 use Rattle.rules.specs.declared.Coefficients.the-variants.{Balance, Oxides, Dust, NoEntry as Wanting}
 use Rattle.rules.specs.Tables.{coefficientsOf}
-use Rattle.rules.specs.Grams.{fuelBottom}
+use Rattle.rules.specs.Lines.{fuel}
+use Rattle.rules.specs.Grams.{sulphurOf, fuelBottom}
 use Rattle.fuel.specs.declared.FuelFigure.{FuelFigure}
 use Rattle.fuel.specs.declared.FuelFigure.the-variants.{Grams, NoEntry, OutOfRange}
 
 -- the sum of kg x ash over batches
 unfoldable pub ashOf : List Batch → ℕ
 ashOf batches = sumOf (λ b. b .kg * b .ash) batches
+
+-- what is kept of batches is in the document's range
+pub record InRange (batches : List Batch) : Type 0 where
+  pub kg : fuel batches ≤ 10_000_000_000
+  pub sulphur : sulphurOf batches ≤ 2_000
+  pub ash : ashOf batches ≤ 10_000 * fuel batches
 
 -- before the division, halves up: "2 x B x (1000 - q) x S x K", "B x coefficient", "kg x (a x ash + 100 x b)"
 unfoldable pub topOf : Coefficients → ℕ → ℕ → ℕ → ℕ

@@ -1,5 +1,5 @@
 -- Laws of judging: what refuses a record as the code holds it refuses the record, and what a record that is not refused has. Assumes nothing.
-use Prim.Native.Nat.{ℕ, _+_, _*_, _^_, _<_, _≤_}
+use Prim.Native.Nat.{ℕ, _+_, _*_, _<_, _≤_}
 use mathlib.Core.Bool.{Bool, true, false, not}
 use mathlib.Core.List.{List}
 use mathlib.Core.Path.{_≡_, refl, sym, ap, subst, _∙_}
@@ -16,9 +16,8 @@ use Rattle.rules.specs.declared.Coefficients.{Coefficients}
 use Rattle.rules.specs.declared.Coefficients.the-variants.{Balance, Oxides, Dust, NoEntry}
 use Rattle.rules.specs.Records.{Day, Bad as NoRecord, IsHead, IsDay, IsEnforcement, IsPlant, IsBatch, IsEnd, dayOf, recordIn}
 use Rattle.rules.specs.Records as rules
-use Rattle.rules.specs.Hours.{runsAt}
 use Rattle.rules.specs.Tables.{coefficientsOf}
-use Rattle.rules.specs.Judge.{refuse, fine, first, key, placeHead, rangeHead, placeDay, straysOf, rangeMasks, judgePair, judgeHours, judgeDay, surveysLeft, placeEnforcement, placePlant, judgeStopped, judgeSurvey, placeBatch, rangeBatch, judgeEntry, placeEnd, judgeFuel, judge}
+use Rattle.rules.specs.Judge.{refuse, fine, first, key, placeHead, rangeHead, placeDay, rangeMasks, judgePair, judgeHours, judgeDay, surveysLeft, placeEnforcement, placePlant, judgeStopped, judgeSurvey, placeBatch, rangeBatch, judgeEntry, placeEnd, judgeFuel, judge}
 use Rattle.record.specs.declared.DayMasks.{DayMasks}
 use Rattle.record.specs.declared.Record.{Record}
 use Rattle.record.specs.declared.Record.the-variants.{Bad, OfHead, OfDay, OfEnforcement, OfPlant, OfBatch, OfEnd}
@@ -114,58 +113,27 @@ module _ (place : ℕ) (v : View) (runs : List ℕ) where
   pub day-passed : (d : Day) → judge place v runs (IsDay d) ≡ fine → (judgeFlat place v runs (OfDay (masksOf d)) ≡ fine) × (judgeHours place d ≡ fine)
   day-passed d e = both-passed (judgeFlat place v runs (OfDay (masksOf d))) (judgeHours place d) (flat-stands (OfDay (masksOf d))) (sym (judge-day d) ∙ e)
 
-  -- what is not refused is not refused as the code holds it
-  pub flat-passed : (x : rules.Record) → judge place v runs x ≡ fine → judgeFlat place v runs (flat x) ≡ fine
-  unfolding flat NoDay
-  flat-passed NoRecord e = sym (judge-flat NoRecord tt) ∙ e
-  flat-passed (IsHead h) e = sym (judge-flat (IsHead h) tt) ∙ e
-  flat-passed (IsDay d) e = day-passed d e .0
-  flat-passed (IsEnforcement s) e = sym (judge-flat (IsEnforcement s) tt) ∙ e
-  flat-passed (IsPlant s) e = sym (judge-flat (IsPlant s) tt) ∙ e
-  flat-passed (IsBatch b) e = sym (judge-flat (IsBatch b) tt) ∙ e
-  flat-passed IsEnd e = sym (judge-flat IsEnd tt) ∙ e
-
--- ---- what a record that is not refused has
+-- ---- what the walk asks of a record that is not refused
 pub record HeadOk (v : View) (h : Head) : Type 0 where
   pub outside : v .inside ≡ false
-  pub rises : v .floor ≤ key h
   pub room : v .lines < 48
-  pub pollutant-least : 1 ≤ h .pollutant
-  pub pollutant-most : h .pollutant ≤ 3
-  pub required-most : h .required ≤ 1
-  pub furnace-least : 1 ≤ h .furnace
-  pub furnace-most : h .furnace ≤ 4
-  pub coal-least : 1 ≤ h .coal
-  pub coal-most : h .coal ≤ 7
-  pub mw-least : 9 ≤ h .mw
-  pub mark-least : 1 ≤ h .mark
-  pub mark-most : h .mark ≤ 4
-  pub days-least : 1 ≤ h .days
   pub days-most : h .days ≤ 92
 
 pub record DayOk (v : View) (d : DayMasks) : Type 0 where
   pub inside : v .inside ≡ true
   pub room : v .days < v .head .days
   pub turn : d .number ≡ v .days
-  pub run-bits : d .run < 2 ^ 24
-  pub measured-bits : d .measured < 2 ^ 24
-  pub no-strays : straysOf (d .run) (d .measured) ≡ 0
 
-pub record SurveyOk (v : View) (runs : List ℕ) (floor : ℕ) (s : Survey) : Type 0 where
+pub record SurveyOk (v : View) (s : Survey) : Type 0 where
   pub inside : v .inside ≡ true
   pub days-done : v .days ≡ v .head .days
-  pub before-fuel : v .batches ≡ 0
-  pub rises : floor ≤ s .hour
   pub room : v .enforcement .count + v .plant .count < 120
   pub in-period : s .hour < 24 * v .head .days
   pub pair : PairAccepted (s .pair)
-  pub running : runsAt runs (s .hour) ≡ true
 
 pub record BatchOk (v : View) (b : Batch) : Type 0 where
   pub inside : v .inside ≡ true
-  pub days-done : v .days ≡ v .head .days
   pub room : v .batches < 92
-  pub kg-least : 1 ≤ b .kg
   pub sulphur-most : b .sulphur ≤ 2_000
   pub ash-most : b .ash ≤ 10_000
   pub fuel-most : v .fuel + b .kg ≤ 10_000_000_000
@@ -199,23 +167,7 @@ module _ (place : ℕ) (v : View) where
       let b10 = passed 3 place (leb (h .mark) 4) _ refl (b9 .1) in
       let b11 = passed 3 place (leb 1 (h .days)) _ refl (b10 .1) in
       let b12 = passed 3 place (leb (h .days) 92) _ refl (b11 .1) in
-      record {
-        outside = turned-true (v .inside) (a1 .0);
-        rises = leb-true _ _ (a2 .0);
-        room = ltb-true _ _ (a3 .0);
-        pollutant-least = leb-true _ _ (b1 .0);
-        pollutant-most = leb-true _ _ (b2 .0);
-        required-most = leb-true _ _ (b3 .0);
-        furnace-least = leb-true _ _ (b4 .0);
-        furnace-most = leb-true _ _ (b5 .0);
-        coal-least = leb-true _ _ (b6 .0);
-        coal-most = leb-true _ _ (b7 .0);
-        mw-least = leb-true _ _ (b8 .0);
-        mark-least = leb-true _ _ (b9 .0);
-        mark-most = leb-true _ _ (b10 .0);
-        days-least = leb-true _ _ (b11 .0);
-        days-most = leb-true _ _ (b12 .0);
-      }
+      record { outside = turned-true (v .inside) (a1 .0); room = ltb-true _ _ (a3 .0); days-most = leb-true _ _ (b12 .0) }
 
   pub day-ok : (runs : List ℕ) (d : DayMasks) → judgeFlat place v runs (OfDay d) ≡ fine → DayOk v d
   unfolding judgeFlat placeDay rangeMasks
@@ -224,37 +176,17 @@ module _ (place : ℕ) (v : View) where
       let a1 = passed 2 place (v .inside) _ refl (both .0) in
       let a2 = passed 2 place (ltb (v .days) (v .head .days)) _ refl (a1 .1) in
       let a3 = passed 2 place (eqb (d .number) (v .days)) _ refl (a2 .1) in
-      let b1 = passed 3 place (ltb (d .run) (2 ^ 24)) _ refl (both .1) in
-      let b2 = passed 3 place (ltb (d .measured) (2 ^ 24)) _ refl (b1 .1) in
-      let b3 = passed 3 place (eqb (straysOf (d .run) (d .measured)) 0) _ refl (b2 .1) in
-      record {
-        inside = a1 .0;
-        room = ltb-true _ _ (a2 .0);
-        turn = eqb-true _ _ (a3 .0);
-        run-bits = ltb-true _ _ (b1 .0);
-        measured-bits = ltb-true _ _ (b2 .0);
-        no-strays = eqb-true _ _ (b3 .0);
-      }
+      record { inside = a1 .0; room = ltb-true _ _ (a2 .0); turn = eqb-true _ _ (a3 .0) }
 
   -- the tests that both kinds of survey pass after their own
-  survey-ok : (runs : List ℕ) (floor : ℕ) (s : Survey) → v .inside ≡ true → v .days ≡ v .head .days → v .batches ≡ 0 → floor ≤ s .hour → surveysLeft v ≡ true
-      → judgeSurvey place v runs s ≡ fine → SurveyOk v runs floor s
-  unfolding judgeSurvey judgeStopped surveysLeft
-  survey-ok runs floor s i d b f l e =
+  survey-ok : (runs : List ℕ) (s : Survey) → v .inside ≡ true → v .days ≡ v .head .days → surveysLeft v ≡ true → judgeSurvey place v runs s ≡ fine → SurveyOk v s
+  unfolding judgeSurvey surveysLeft
+  survey-ok runs s i d l e =
       let a = passed 3 place (ltb (s .hour) (24 * v .head .days)) _ refl e in
       let both = both-passed (judgePair place (s .pair)) (judgeStopped place runs (s .hour)) (pair-stands place (s .pair)) (a .1) in
-      record {
-        inside = i;
-        days-done = d;
-        before-fuel = b;
-        rises = f;
-        room = ltb-true _ _ l;
-        in-period = ltb-true _ _ (a .0);
-        pair = pair-accepted place (s .pair) (both .0);
-        running = passed 5 place (runsAt runs (s .hour)) _ refl (both .1) .0;
-      }
+      record { inside = i; days-done = d; room = ltb-true _ _ l; in-period = ltb-true _ _ (a .0); pair = pair-accepted place (s .pair) (both .0) }
 
-  pub enforcement-ok : (runs : List ℕ) (s : Survey) → judgeFlat place v runs (OfEnforcement s) ≡ fine → (v .plant .count ≡ 0) × SurveyOk v runs (v .enforcement .floor) s
+  pub enforcement-ok : (runs : List ℕ) (s : Survey) → judgeFlat place v runs (OfEnforcement s) ≡ fine → (v .plant .count ≡ 0) × SurveyOk v s
   unfolding judgeFlat placeEnforcement
   enforcement-ok runs s e =
       let both = both-passed (placeEnforcement place v s) (judgeSurvey place v runs s) (search stands depth 20) e in
@@ -264,9 +196,9 @@ module _ (place : ℕ) (v : View) where
       let a4 = passed 2 place (eqb (v .batches) 0) _ refl (a3 .1) in
       let a5 = passed 2 place (leb (v .enforcement .floor) (s .hour)) _ refl (a4 .1) in
       let a6 = passed 2 place (surveysLeft v) _ refl (a5 .1) in
-      (eqb-true _ _ (a3 .0), survey-ok runs (v .enforcement .floor) s (a1 .0) (eqb-true _ _ (a2 .0)) (eqb-true _ _ (a4 .0)) (leb-true _ _ (a5 .0)) (a6 .0) (both .1))
+      (eqb-true _ _ (a3 .0), survey-ok runs s (a1 .0) (eqb-true _ _ (a2 .0)) (a6 .0) (both .1))
 
-  pub plant-ok : (runs : List ℕ) (s : Survey) → judgeFlat place v runs (OfPlant s) ≡ fine → SurveyOk v runs (v .plant .floor) s
+  pub plant-ok : (runs : List ℕ) (s : Survey) → judgeFlat place v runs (OfPlant s) ≡ fine → SurveyOk v s
   unfolding judgeFlat placePlant
   plant-ok runs s e =
       let both = both-passed (placePlant place v s) (judgeSurvey place v runs s) (search stands depth 20) e in
@@ -275,7 +207,7 @@ module _ (place : ℕ) (v : View) where
       let a3 = passed 2 place (eqb (v .batches) 0) _ refl (a2 .1) in
       let a4 = passed 2 place (leb (v .plant .floor) (s .hour)) _ refl (a3 .1) in
       let a5 = passed 2 place (surveysLeft v) _ refl (a4 .1) in
-      survey-ok runs (v .plant .floor) s (a1 .0) (eqb-true _ _ (a2 .0)) (eqb-true _ _ (a3 .0)) (leb-true _ _ (a4 .0)) (a5 .0) (both .1)
+      survey-ok runs s (a1 .0) (eqb-true _ _ (a2 .0)) (a5 .0) (both .1)
 
   pub batch-ok : (runs : List ℕ) (b : Batch) → judgeFlat place v runs (OfBatch b) ≡ fine → BatchOk v b
   unfolding judgeFlat placeBatch rangeBatch
@@ -290,9 +222,7 @@ module _ (place : ℕ) (v : View) where
       let b4 = passed 3 place (leb (v .fuel + b .kg) 10_000_000_000) _ refl (b3 .1) in
       record {
         inside = a1 .0;
-        days-done = eqb-true _ _ (a2 .0);
         room = ltb-true _ _ (a3 .0);
-        kg-least = leb-true _ _ (b1 .0);
         sulphur-most = leb-true _ _ (b2 .0);
         ash-most = leb-true _ _ (b3 .0);
         fuel-most = leb-true _ _ (b4 .0);

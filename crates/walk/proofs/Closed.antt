@@ -1,13 +1,13 @@
 -- What the calls at the end of a line leave, put together. Assumes nothing.
 use mathlib.Core.Path.{_≡_, refl, _∙_, sym, ap, ap₂, subst}
 use mathlib.Core.List.{List}
-use Prim.Native.Nat.{ℕ, _+_, _-_, _*_, _/_, _≤_, _<_, min}
-use native.Mathlib.Nat.{mul-div-mul-right, mul-le-mul, mul-le-mul-right}
+use Prim.Native.Nat.{ℕ, _+_, _-_, _*_, _≤_, _<_}
+use native.Mathlib.Nat.{mul-le-mul, mul-le-mul-right}
 use native.Mathlib.Omega.{arith}
 use lib.ListN.{length, take, drop, getD, length-take}
-use lib.Seq.{take-at, getD-take}
+use lib.Seq.{getD-take}
 use lib.Dec.{eqb}
-use Rattle.law.specs.Words.{need, table, over, halvesUp, largest}
+use Rattle.law.specs.Words.{need, halvesUp, largest}
 use Rattle.law.proofs.Tests.{need-case, pick-true, pick-false}
 use Rattle.law.proofs.Halves.{halves-within}
 use mathlib.Core.Bool.{Bool, true, false}
@@ -26,8 +26,7 @@ use Rattle.walk.specs.Views.{afterEnd}
 use Rattle.rules.specs.Judge.{fine}
 use Rattle.law.proofs.Tables.{table-length}
 use Rattle.hours.specs.States.{stateAt}
-use Rattle.fills.specs.Gaps.{hoursIn, hoursInBoth, filledCells}
-use Rattle.fills.proofs.Filled.{filled-both}
+use Rattle.fills.specs.Gaps.{hoursIn, filledCells}
 use Rattle.fills.specs.Weights.{products}
 use Rattle.fills.proofs.States.{hours-all}
 use Rattle.fills.proofs.Bounds.{largest-each, filled-most, products-most}

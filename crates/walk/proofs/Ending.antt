@@ -28,13 +28,12 @@ use Rattle.fills.specs.Gaps.{filledCells}
 use Rattle.fills.specs.Weights.{products}
 use Rattle.fills.proofs.Products.{products-amounts}
 use Rattle.fuel.specs.Fuel.{ashOf, fuelFigure}
-use Rattle.fuel.proofs.Batches.{InRange}
 use Rattle.fuel.proofs.Figures.{line-figure}
 use Rattle.walk.specs.declared.books.Sums.{Sums}
 use Rattle.walk.specs.declared.take.Taken.{Taken}
 use Rattle.walk.specs.Views.{afterEnd}
-use Rattle.walk.specs.Books.{noRows, patched, valuesAt, Bounded, Kept}
-use Rattle.walk.specs.Closing.{gramsIn, periodWeight, Limits, LineGrams}
+use Rattle.walk.specs.Books.{noRows, patched, valuesAt, CellsKept, Kept}
+use Rattle.walk.specs.Closing.{gramsIn, periodWeight, LineGrams}
 use Rattle.walk.specs.Taking.{EndTaken}
 use Rattle.period.specs.Period.{periodStates}
 use Rattle.line.specs.Line.{rowIn}
@@ -51,26 +50,16 @@ unfolding viewOf method surveys
 method-is x done =
     ap₂ (λ (a b : ℕ). methodOf (x .head) (a + b) (running (x .days)) (lacking (x .days))) (survey-count (x .enforcement)) (survey-count (x .plant))
 
--- a line's cells are within the limits
+-- a cell is within the limit of its quantity
 table-most : (f : ℕ → ℕ) (M : ℕ) → ((h : ℕ) → f h ≤ M) → (h : ℕ) → Dec (h < 2_208) → getD (table f 2_208) h 0 ≤ M
 table-most f M m h (yes l) = subst (λ (n : ℕ). n ≤ M) (sym (table-at f 2_208 h 0 l)) (m h)
 table-most f M m h (no l) = subst (λ (n : ℕ). n ≤ M) (sym (List·getD-eq-default (table f 2_208) 0 (let e : length (table f 2_208) ≤ h = omega (arith, table-length f 2_208) in e))) (omega arith)
 
-pub table-limits : (x : Line) → Bounded x → Limits (table (λ h. valuesAt x h .c) 2_208) (table (λ h. valuesAt x h .l) 2_208)
-table-limits x b =
-    record {
-      concentrations = λ h. table-most (λ k. valuesAt x k .c) 1_000_000 (b .concentrations) h (decLt h 2_208);
-      flows = λ h. table-most (λ k. valuesAt x k .l) 5_000_000 (b .flows) h (decLt h 2_208);
-    }
+pub cells-most : {value : ℕ → ℕ} {most : ℕ} {cells : List ℕ} → CellsKept value most cells → (h : ℕ) → getD cells h 0 ≤ most
+cells-most {value} {most} c h = subst (λ (l : List ℕ). getD l h 0 ≤ most) (sym (c .hold)) (table-most value most (c .within) h (decLt h 2_208))
 
-pub in-range : (x : Line) → Bounded x → InRange (x .batches)
-in-range x b = record { kg = b .fuelMost; sulphur = b .sulphurMost; ash = b .ashMost }
-
-module _ (x : Line) (b : Bounded x) (all-days : length (x .days) ≡ x .head .days) where
-  few : length (x .days) ≤ 92
-  few = omega (arith, b .period)
-
-  -- ---- method 1: what is weighed is the sum of the filled hours
+-- ---- method 1: what is weighed is the sum of the filled hours
+module _ (x : Line) (few : length (x .days) ≤ 92) where
   weighed : periodWeight (length (x .days)) (filledCells (periodStates (runMasks (x .days)) (measuredMasks (x .days)) (length (x .days))) (table (λ h. valuesAt x h .c) 2_208)) (filledCells (periodStates (runMasks (x .days)) (measuredMasks (x .days)) (length (x .days))) (table (λ h. valuesAt x h .l) 2_208))
       ≡ sumOf amount (hourly filled x)
   weighed = ap₂ products (filled-concentrations x few .0) (filled-flows x few .0) ∙ sym (products-amounts (hourly filled x))
@@ -109,8 +98,8 @@ module _ (x : Line) (done : List Line) (v : View) (s : Sums) (runs measured flag
     (k : Kept (Inside x done) v s runs measured flags conc flow out) (all-days : length (x .days) ≡ x .head .days)
     (entry : (method x ≡ 1 → ⊥) → (method x ≡ 2 → ⊥) → coefficientsOf (x .head) ≡ NoEntry → ⊥)
   where
-    b : Bounded x
-    b = k .books .bounded
+    few : length (x .days) ≤ 92
+    few = omega (arith, k .books .period)
 
     abbrev lineStates : List ℕ
     lineStates = periodStates (runMasks (x .days)) (measuredMasks (x .days)) (v .head .days)
@@ -145,7 +134,7 @@ module _ (x : Line) (done : List Line) (v : View) (s : Sums) (runs measured flag
     v-days = ap (λ (h : Head). h .days) v-head ∙ sym all-days
 
     fuel-figure : fuelFigure (v .head) (v .fuel) (s .sulphur) (s .ash) ≡ fuelFigure (x .head) (fuel (x .batches)) (sulphurOf (x .batches)) (ashOf (x .batches))
-    fuel-figure = rw (v-head, v-fuel, k .books .sulphurKept, k .books .ashKept)
+    fuel-figure = rw (v-head, v-fuel, k .books .fuel .largest, k .books .fuel .summed)
 
     module _ (conc' flow' : List ℕ) (g : ℕ) (l : LineGrams (lineMethod v) v s lineStates conc flow conc' flow' g) where
       closes-by : (p q : Bool) → eqb (method x) 1 ≡ p → eqb (method x) 2 ≡ q → Closes x conc' flow' g
@@ -154,31 +143,31 @@ module _ (x : Line) (done : List Line) (v : View) (s : Sums) (runs measured flag
           let z = eqb-true (method x) 1 t in
           let f = l .automatic (v-method ∙ z) in
           let state : ℕ → List ℕ = λ n. periodStates (runMasks (x .days)) (measuredMasks (x .days)) n in
-          let c : conc' ≡ filledCells (state (length (x .days))) (table (λ h. valuesAt x h .c) 2_208) = f .concentrations ∙ ap₂ (λ (n : ℕ) (t : List ℕ). filledCells (state n) t) v-days (k .books .concKept) in
-          let d : flow' ≡ filledCells (state (length (x .days))) (table (λ h. valuesAt x h .l) 2_208) = f .flows ∙ ap₂ (λ (n : ℕ) (t : List ℕ). filledCells (state n) t) v-days (k .books .flowKept) in
+          let c : conc' ≡ filledCells (state (length (x .days))) (table (λ h. valuesAt x h .c) 2_208) = f .concentrations ∙ ap₂ (λ (n : ℕ) (t : List ℕ). filledCells (state n) t) v-days (k .books .concentrations .hold) in
+          let d : flow' ≡ filledCells (state (length (x .days))) (table (λ h. valuesAt x h .l) 2_208) = f .flows ∙ ap₂ (λ (n : ℕ) (t : List ℕ). filledCells (state n) t) v-days (k .books .flows .hold) in
           record {
             figure =
                 f .grams ∙ ap (λ (n : ℕ). halvesUp (periodWeight n conc' flow') 100_000) v-days
                 ∙ ap₂ (λ (i j : List ℕ). halvesUp (periodWeight (length (x .days)) i j) 100_000) c d
-                ∙ ap (λ (n : ℕ). halvesUp n 100_000) (weighed x b all-days) ∙ sym (grams-automatic x z);
-            concentrations = c ∙ filled-concentrations x (few x b all-days) .1 ∙ ap (λ (w : List Values). cells (cs w)) (sym (held-filled x t));
-            flows = d ∙ filled-flows x (few x b all-days) .1 ∙ ap (λ (w : List Values). cells (ls w)) (sym (held-filled x t));
+                ∙ ap (λ (n : ℕ). halvesUp n 100_000) (weighed x few) ∙ sym (grams-automatic x z);
+            concentrations = c ∙ filled-concentrations x few .1 ∙ ap (λ (w : List Values). cells (cs w)) (sym (held-filled x t));
+            flows = d ∙ filled-flows x few .1 ∙ ap (λ (w : List Values). cells (ls w)) (sym (held-filled x t));
           }
       closes-by false true t u =
           let f = l .manual (v-method ∙ eqb-true (method x) 2 u) in
           record {
-            figure = f .2 ∙ rw (k .books .weightKept, k .books .surveyedKept, v-running) refl ∙ sym (grams-manual x (eqb-true (method x) 2 u));
-            concentrations = f .0 ∙ k .books .concKept ∙ unfilled-concentrations x (few x b all-days) ∙ ap (λ (w : List Values). cells (cs w)) (sym (held-plain x t));
-            flows = f .1 ∙ k .books .flowKept ∙ unfilled-flows x (few x b all-days) ∙ ap (λ (w : List Values). cells (ls w)) (sym (held-plain x t));
+            figure = f .2 ∙ rw (k .books .surveys .weighed, k .books .surveys .counted, v-running) refl ∙ sym (grams-manual x (eqb-true (method x) 2 u));
+            concentrations = f .0 ∙ k .books .concentrations .hold ∙ unfilled-concentrations x few ∙ ap (λ (w : List Values). cells (cs w)) (sym (held-plain x t));
+            flows = f .1 ∙ k .books .flows .hold ∙ unfilled-flows x few ∙ ap (λ (w : List Values). cells (ls w)) (sym (held-plain x t));
           }
       closes-by false false t u =
           let n = eqb-false (method x) 1 t in
           let m = eqb-false (method x) 2 u in
           let f = l .fuel (λ e. n (sym v-method ∙ e)) (λ e. m (sym v-method ∙ e)) in
           record {
-            figure = f .2 ∙ ap gramsIn (fuel-figure ∙ line-figure (x .head) (x .batches) (in-range x b) (entry n m)) ∙ sym (grams-fuel x n m);
-            concentrations = f .0 ∙ k .books .concKept ∙ unfilled-concentrations x (few x b all-days) ∙ ap (λ (w : List Values). cells (cs w)) (sym (held-plain x t));
-            flows = f .1 ∙ k .books .flowKept ∙ unfilled-flows x (few x b all-days) ∙ ap (λ (w : List Values). cells (ls w)) (sym (held-plain x t));
+            figure = f .2 ∙ ap gramsIn (fuel-figure ∙ line-figure (x .head) (x .batches) (k .books .fuel .range) (entry n m)) ∙ sym (grams-fuel x n m);
+            concentrations = f .0 ∙ k .books .concentrations .hold ∙ unfilled-concentrations x few ∙ ap (λ (w : List Values). cells (cs w)) (sym (held-plain x t));
+            flows = f .1 ∙ k .books .flows .hold ∙ unfilled-flows x few ∙ ap (λ (w : List Values). cells (ls w)) (sym (held-plain x t));
           }
 
       closes : Closes x conc' flow' g
@@ -214,7 +203,7 @@ module _ (x : Line) (done : List Line) (v : View) (s : Sums) (runs measured flag
       kept-end =
           let c = shut .concentrations in
           let l = shut .flows in
-          let used : r .sums .used ≡ 24 * x .head .days = ap (λ (u : Sums). u .used) (e .sums) ∙ k .books .usedKept in
+          let used : r .sums .used ≡ 24 * x .head .days = ap (λ (u : Sums). u .used) (e .sums) ∙ k .books .used in
           record {
             view = e .view ∙ ap afterEnd (k .view) ∙ view-end x done;
             lines = omega (arith, k .lines);
@@ -228,16 +217,16 @@ module _ (x : Line) (done : List Line) (v : View) (s : Sums) (runs measured flag
             runsLong = k .runsLong;
             measuredLong = k .measuredLong;
             flagsLong = k .flagsLong;
-            concLong = ap length c ∙ held-cells x (λ w. w .c) (few x (k .books .bounded) all-days);
-            flowLong = ap length l ∙ held-cells x (λ w. w .l) (few x (k .books .bounded) all-days);
+            concLong = ap length c ∙ held-cells x (λ w. w .c) few;
+            flowLong = ap length l ∙ held-cells x (λ w. w .l) few;
             outLong = ap length (e .outNow) ∙ patched-length _ 7 (7 * v .lines) out (omega (arith, v-lines, k .lines, k .outLong)) ∙ k .outLong;
             books =
                 record {
                   concHeld = c;
                   flowHeld = l;
-                  usedMost = omega (arith, used, k .books .bounded .period);
-                  flagsPast = λ h m. k .books .flagsPast h (omega (arith, used, m));
-                  concPast = λ h m. ap (λ (t : List ℕ). getD t h 0) c ∙ cells-past (map (λ w. w .c) (held x)) (r .sums .used) h (omega (arith, used, k .books .bounded .days, length-map (held x) (λ w. w .c), held-length x)) m;
-                  flowPast = λ h m. ap (λ (t : List ℕ). getD t h 0) l ∙ cells-past (map (λ w. w .l) (held x)) (r .sums .used) h (omega (arith, used, k .books .bounded .days, length-map (held x) (λ w. w .l), held-length x)) m;
+                  usedMost = omega (arith, used, k .books .period);
+                  flagsPast = λ h m. k .books .surveys .past h (omega (arith, used, m));
+                  concPast = λ h m. ap (λ (t : List ℕ). getD t h 0) c ∙ cells-past (map (λ w. w .c) (held x)) (r .sums .used) h (omega (arith, used, k .books .days, length-map (held x) (λ w. w .c), held-length x)) m;
+                  flowPast = λ h m. ap (λ (t : List ℕ). getD t h 0) l ∙ cells-past (map (λ w. w .l) (held x)) (r .sums .used) h (omega (arith, used, k .books .days, length-map (held x) (λ w. w .l), held-length x)) m;
                 };
           }

@@ -30,34 +30,35 @@ use Rattle.walk.specs.Books.{plain, valuesAt}
 use Rattle.walk.proofs.Hours.{past-zero}
 
 -- ---- an hour of the line after step 1
-replaced-length : (x : Line) (k : ℕ) (os : List (Slot Pair)) → length (replacedFrom x k os) ≡ length os
-unfolding replacedFrom
-replaced-length x k [] = refl
-replaced-length x k (o ∷ os) = ap suc (replaced-length x (k + 1) os)
+module _ (es ps : List Survey) where
+  replaced-length : (k : ℕ) (os : List (Slot Pair)) → length (replacedFrom es ps k os) ≡ length os
+  unfolding replacedFrom
+  replaced-length k [] = refl
+  replaced-length k (o ∷ os) = ap suc (replaced-length (k + 1) os)
 
-replaced-at : (x : Line) (k : ℕ) (os : List (Slot Pair)) (h : ℕ) → h < length os → getD (replacedFrom x k os) h stopped ≡ replaced x (k + h) (getD os h stopped)
-unfolding replacedFrom
-replaced-at x k [] h l = absurd (omega arith)
-replaced-at x k (o ∷ os) zero l = ap (λ (j : ℕ). replaced x j o) (let e : k ≡ k + 0 = omega arith in e)
-replaced-at x k (o ∷ os) (suc h) l =
-    replaced-at x (k + 1) os h (omega arith) ∙ ap (λ (j : ℕ). replaced x j (getD os h stopped)) (let e : k + 1 + h ≡ k + suc h = omega arith in e)
+  replaced-at : (k : ℕ) (os : List (Slot Pair)) (h : ℕ) → h < length os → getD (replacedFrom es ps k os) h stopped ≡ replaced es ps (k + h) (getD os h stopped)
+  unfolding replacedFrom
+  replaced-at k [] h l = absurd (omega arith)
+  replaced-at k (o ∷ os) zero l = ap (λ (j : ℕ). replaced es ps j o) (let e : k ≡ k + 0 = omega arith in e)
+  replaced-at k (o ∷ os) (suc h) l =
+      replaced-at (k + 1) os h (omega arith) ∙ ap (λ (j : ℕ). replaced es ps j (getD os h stopped)) (let e : k + 1 + h ≡ k + suc h = omega arith in e)
 
 module _ (x : Line) where
   abbrev N : ℕ
   N = 24 * length (x .days)
 
   abbrev slotNow : ℕ → Slot Pair
-  slotNow h = replaced x h (getD (slotsOf (x .days)) h stopped)
+  slotNow h = replaced (x .enforcement) (x .plant) h (getD (slotsOf (x .days)) h stopped)
 
   hours-length : length (hours x) ≡ N
   unfolding hours
-  hours-length = replaced-length x 0 (slotsOf (x .days)) ∙ length-slots (x .days)
+  hours-length = replaced-length (x .enforcement) (x .plant) 0 (slotsOf (x .days)) ∙ length-slots (x .days)
 
   hours-at : (h : ℕ) → h < N → getD (hours x) h stopped ≡ slotNow h
   unfolding hours
   hours-at h l =
-      replaced-at x 0 (slotsOf (x .days)) h (omega (arith, length-slots (x .days)))
-      ∙ ap (λ (j : ℕ). replaced x j (getD (slotsOf (x .days)) h stopped)) (let e : 0 + h ≡ h = omega arith in e)
+      replaced-at (x .enforcement) (x .plant) 0 (slotsOf (x .days)) h (omega (arith, length-slots (x .days)))
+      ∙ ap (λ (j : ℕ). replaced (x .enforcement) (x .plant) j (getD (slotsOf (x .days)) h stopped)) (let e : 0 + h ≡ h = omega arith in e)
 
   slots-long : length (slots x) ≡ N
   unfolding slots
@@ -73,11 +74,11 @@ unfolding surveyAt stateIn
 survey-state h [] o e = e
 survey-state h (s ∷ ss) o e = pick-case (λ (t : Slot Pair). stateIn t ≡ 2) (eqb h (s .hour)) (valid (s .pair)) (surveyAt h ss o) (λ _. refl) (λ _. survey-state h ss o e)
 
-replaced-state : (x : Line) (h : ℕ) (o : Slot Pair) → stateIn (replaced x h o) ≡ stateIn o
+replaced-state : (es ps : List Survey) (h : ℕ) (o : Slot Pair) → stateIn (replaced es ps h o) ≡ stateIn o
 unfolding replaced stateIn
-replaced-state x h (valid p) = survey-state h (x .enforcement) (surveyAt h (x .plant) (valid p)) (survey-state h (x .plant) (valid p) refl)
-replaced-state x h missing = refl
-replaced-state x h stopped = refl
+replaced-state es ps h (valid p) = survey-state h es (surveyAt h ps (valid p)) (survey-state h ps (valid p) refl)
+replaced-state es ps h missing = refl
+replaced-state es ps h stopped = refl
 
 -- a slot by its state and the value of its hour
 slot-by : (f : Values → ℕ) (o : Slot Pair) → mapSlot f (mapSlot valuesOf o) ≡ slotIn (stateIn o) (f (plain o))
@@ -116,7 +117,7 @@ module _ (x : Line) (few : length (x .days) ≤ 92) (f : Values → ℕ) (zero-f
   unfolding slotAt slotIn valuesAt
   slot-is h l =
       ap₂ (λ (s v : ℕ). slotIn s v) (table-at (stateAt (runMasks (x .days)) (measuredMasks (x .days))) (N x) h 0 l) (table-at (λ k. f (valuesAt x k)) 2_208 h 0 (omega arith))
-      ∙ ap (λ (s : ℕ). slotIn s (f (plain (slotNow x h)))) (sym (replaced-state x h (getD (slotsOf (x .days)) h stopped) ∙ state-slot (x .days) h))
+      ∙ ap (λ (s : ℕ). slotIn s (f (plain (slotNow x h)))) (sym (replaced-state (x .enforcement) (x .plant) h (getD (slotsOf (x .days)) h stopped) ∙ state-slot (x .days) h))
       ∙ sym (slot-by f (slotNow x h))
 
   slots-are : slotsIn states values ≡ map (mapSlot f) (slots x)

@@ -121,7 +121,7 @@ reached-start file runs measured flags conc flow out p rl ml g ol c f q =
 lent-stand : (stand : Stand) (v : View) (s : Sums) (runs measured flags conc flow out : List ℕ) → Kept stand v s runs measured flags conc flow out → take (v .days) runs ≡ runsOf stand
 unfolding viewOf runsOf
 lent-stand (Between done) v s runs measured flags conc flow out k = ap (λ (w : View). take (w .days) runs) (k .view)
-lent-stand (Inside x done) v s runs measured flags conc flow out k = ap (λ (w : View). take (w .days) runs) (k .view) ∙ k .books .runsKept
+lent-stand (Inside x done) v s runs measured flags conc flow out k = ap (λ (w : View). take (w .days) runs) (k .view) ∙ k .books .masks .runsKept
 
 lent-bytes : (file : List ℕ) (at : ℕ) → take (length file - at) (drop at file) ≡ drop at file
 lent-bytes file at = take-all (length file - at) (drop at file) (let l : length (drop at file) ≤ length file - at = omega (arith, length-drop at file) in l)

@@ -13,12 +13,11 @@ use Rattle.law.proofs.Tables.{table-at}
 use Rattle.rules.specs.declared.Head.{Head}
 use Rattle.rules.specs.declared.Pair.{Pair}
 use Rattle.rules.specs.declared.Survey.{Survey}
-use Rattle.rules.specs.declared.Batch.{Batch}
 use Rattle.rules.specs.Records.{Day}
 use Rattle.rules.specs.Slots.{Slot, valid, missing, stopped}
 use Rattle.rules.specs.Hours.{slotOf, slotsOf, runMasks, measuredMasks, runsAt}
 use Rattle.rules.specs.Lines.{Line, surveyAt, replaced, hasSurvey}
-use Rattle.rules.specs.Walk.{begun, withDay, withEnforcement, withPlant, withBatch}
+use Rattle.rules.specs.Walk.{begun, withDay, withEnforcement, withPlant}
 use Rattle.rules.specs.Fill.{zeroes}
 use Rattle.rules.specs.Grams.{valuesOf}
 use Rattle.bits.specs.State.{stateOf}
@@ -30,30 +29,30 @@ use Rattle.walk.specs.Books.{plain, valuesAt}
 -- ---- past the days of a line nothing stands
 pub past-zero : (x : Line) (h : ℕ) → 24 * length (x .days) ≤ h → valuesAt x h ≡ zeroes
 unfolding valuesAt replaced plain
-past-zero x h l = ap (λ (o : Slot Pair). plain (replaced x h o)) (slot-past (x .days) h l)
+past-zero x h l = ap (λ (o : Slot Pair). plain (replaced (x .enforcement) (x .plant) h o)) (slot-past (x .days) h l)
 
 pub begun-zero : (hd : Head) (h : ℕ) → valuesAt (begun hd) h ≡ zeroes
 unfolding begun
 begun-zero hd h = past-zero (begun hd) h (omega arith)
 
 -- ---- a line without surveys holds what was measured
-unreplaced : (x : Line) (h : ℕ) (o : Slot Pair) → x .enforcement ≡ [] → x .plant ≡ [] → replaced x h o ≡ o
+unreplaced : (es ps : List Survey) (h : ℕ) (o : Slot Pair) → es ≡ [] → ps ≡ [] → replaced es ps h o ≡ o
 unfolding replaced surveyAt
-unreplaced x h (valid p) e q = rw (e, q)
-unreplaced x h missing e q = refl
-unreplaced x h stopped e q = refl
+unreplaced es ps h (valid p) e q = rw (e, q)
+unreplaced es ps h missing e q = refl
+unreplaced es ps h stopped e q = refl
 
 -- ---- a day more: the hours before it stay, and its own hold what it measured
 module _ (x : Line) (d : Day) (e : x .enforcement ≡ []) (q : x .plant ≡ []) where
   day-slot : (h : ℕ) (o : Slot Pair) → getD (slotsOf (d ∷ x .days)) h stopped ≡ o → valuesAt (withDay x d) h ≡ plain o
   unfolding valuesAt withDay
-  day-slot h o s = ap (λ (t : Slot Pair). plain (replaced (withDay x d) h t)) s ∙ ap plain (unreplaced (withDay x d) h o e q)
+  day-slot h o s = ap (λ (t : Slot Pair). plain (replaced (x .enforcement) (x .plant) h t)) s ∙ ap plain (unreplaced (x .enforcement) (x .plant) h o e q)
 
   pub day-before : (h : ℕ) → h < 24 * length (x .days) → valuesAt (withDay x d) h ≡ valuesAt x h
   unfolding slotsOf valuesAt
   day-before h l =
       day-slot h (getD (slotsOf (x .days)) h stopped) (List·getD-append (slotsOf (x .days)) (table (slotOf d) 24) stopped h (omega (arith, length-slots (x .days))))
-      ∙ ap plain (sym (unreplaced x h (getD (slotsOf (x .days)) h stopped) e q))
+      ∙ ap plain (sym (unreplaced (x .enforcement) (x .plant) h (getD (slotsOf (x .days)) h stopped) e q))
 
   pub day-own : (k : ℕ) → k < 24 → valuesAt (withDay x d) (24 * length (x .days) + k) ≡ plain (slotOf d k)
   unfolding slotsOf
@@ -94,25 +93,13 @@ unfolding surveyAt hasSurvey
 survey-free h [] o t = refl
 survey-free h (s ∷ ss) o t = free-by (eqb h (s .hour)) (hasSurvey h ss) (valid (s .pair)) (surveyAt h ss o) o (survey-free h ss o) t
 
--- another hour
-enforcement-slot : (x : Line) (s : Survey) (h : ℕ) (o : Slot Pair) → (h ≡ s .hour → ⊥) → replaced (withEnforcement x s) h o ≡ replaced x h o
-unfolding replaced withEnforcement
-enforcement-slot x s h (valid p) n = survey-other h s (x .enforcement) (surveyAt h (x .plant) (valid p)) n
-enforcement-slot x s h missing n = refl
-enforcement-slot x s h stopped n = refl
-
-plant-slot : (x : Line) (s : Survey) (h : ℕ) (o : Slot Pair) → (h ≡ s .hour → ⊥) → replaced (withPlant x s) h o ≡ replaced x h o
-unfolding replaced withPlant
-plant-slot x s h (valid p) n = ap (surveyAt h (x .enforcement)) (survey-other h s (x .plant) (valid p) n)
-plant-slot x s h missing n = refl
-plant-slot x s h stopped n = refl
-
--- a plant survey where an enforcement survey stands
-plant-beaten : (x : Line) (s : Survey) (h : ℕ) (o : Slot Pair) → hasSurvey h (x .enforcement) ≡ true → replaced (withPlant x s) h o ≡ replaced x h o
-unfolding replaced withPlant
-plant-beaten x s h (valid p) t = survey-covered h (x .enforcement) (surveyAt h (s ∷ x .plant) (valid p)) (surveyAt h (x .plant) (valid p)) t
-plant-beaten x s h missing t = refl
-plant-beaten x s h stopped t = refl
+-- only a measured hour is replaced, so that what surveys do to it is all they do
+replaced-same : (es es' ps ps' : List Survey) (h : ℕ) → ((p : Pair) → surveyAt h es (surveyAt h ps (valid p)) ≡ surveyAt h es' (surveyAt h ps' (valid p)))
+    → (o : Slot Pair) → replaced es ps h o ≡ replaced es' ps' h o
+unfolding replaced
+replaced-same es es' ps ps' h e (valid p) = e p
+replaced-same es es' ps ps' h e missing = refl
+replaced-same es es' ps ps' h e stopped = refl
 
 module _ (x : Line) (s : Survey) (h : ℕ) where
   abbrev slotAt : Slot Pair
@@ -120,40 +107,29 @@ module _ (x : Line) (s : Survey) (h : ℕ) where
 
   pub enforcement-other : (h ≡ s .hour → ⊥) → valuesAt (withEnforcement x s) h ≡ valuesAt x h
   unfolding valuesAt withEnforcement
-  enforcement-other n = ap plain (enforcement-slot x s h slotAt n)
+  enforcement-other n = ap plain (replaced-same _ _ _ _ h (λ p. survey-other h s (x .enforcement) (surveyAt h (x .plant) (valid p)) n) slotAt)
 
   pub plant-other : (h ≡ s .hour → ⊥) → valuesAt (withPlant x s) h ≡ valuesAt x h
   unfolding valuesAt withPlant
-  plant-other n = ap plain (plant-slot x s h slotAt n)
+  plant-other n = ap plain (replaced-same _ _ _ _ h (λ p. ap (surveyAt h (x .enforcement)) (survey-other h s (x .plant) (valid p) n)) slotAt)
 
   pub plant-second : hasSurvey h (x .enforcement) ≡ true → valuesAt (withPlant x s) h ≡ valuesAt x h
   unfolding valuesAt withPlant
-  plant-second t = ap plain (plant-beaten x s h slotAt t)
+  plant-second t = ap plain (replaced-same _ _ _ _ h (λ p. survey-covered h (x .enforcement) (surveyAt h (s ∷ x .plant) (valid p)) (surveyAt h (x .plant) (valid p)) t) slotAt)
 
   -- its own hour, measured
   module _ (p : Pair) (e : slotAt ≡ valid p) (o : h ≡ s .hour) where
     pub enforcement-own : valuesAt (withEnforcement x s) h ≡ valuesOf (s .pair)
     unfolding valuesAt withEnforcement replaced plain
     enforcement-own =
-        ap (λ (t : Slot Pair). plain (replaced (withEnforcement x s) h t)) e
+        ap (λ (t : Slot Pair). plain (replaced (s ∷ x .enforcement) (x .plant) h t)) e
         ∙ ap plain (survey-own h s (x .enforcement) (surveyAt h (x .plant) (valid p)) o)
 
     pub plant-own : hasSurvey h (x .enforcement) ≡ false → valuesAt (withPlant x s) h ≡ valuesOf (s .pair)
     unfolding valuesAt withPlant replaced plain
     plant-own t =
-        ap (λ (t : Slot Pair). plain (replaced (withPlant x s) h t)) e
+        ap (λ (t : Slot Pair). plain (replaced (x .enforcement) (s ∷ x .plant) h t)) e
         ∙ ap plain (survey-free h (x .enforcement) (surveyAt h (s ∷ x .plant) (valid p)) t ∙ survey-own h s (x .plant) (valid p) o)
-
--- ---- a batch changes no hour
-batch-slot : (x : Line) (b : Batch) (h : ℕ) (o : Slot Pair) → replaced (withBatch x b) h o ≡ replaced x h o
-unfolding replaced withBatch
-batch-slot x b h (valid p) = refl
-batch-slot x b h missing = refl
-batch-slot x b h stopped = refl
-
-pub batch-same : (x : Line) (b : Batch) (h : ℕ) → valuesAt (withBatch x b) h ≡ valuesAt x h
-unfolding valuesAt withBatch
-batch-same x b h = ap plain (batch-slot x b h (getD (slotsOf (x .days)) h stopped))
 
 -- ---- a measured bit is state 2, and without it nothing stands
 state-measured : (runs measured : List ℕ) (h : ℕ) → runsAt measured h ≡ true → stateAt runs measured h ≡ 2
@@ -167,14 +143,14 @@ state-other runs measured h t = rw t
 pub measured-slot : (ds : List Day) (h : ℕ) → runsAt (measuredMasks ds) h ≡ true → getD (slotsOf ds) h stopped ≡ valid (pairIs ds h)
 measured-slot ds h t = slot-valid ds h (state-measured (runMasks ds) (measuredMasks ds) h t)
 
-nothing-by : (x : Line) (h : ℕ) (p : Pair) (b : Bool) → plain (replaced x h (slotIn (pick b 1 0) p)) ≡ zeroes
+nothing-by : (es ps : List Survey) (h : ℕ) (p : Pair) (b : Bool) → plain (replaced es ps h (slotIn (pick b 1 0) p)) ≡ zeroes
 unfolding slotIn pick replaced plain
-nothing-by x h p true = refl
-nothing-by x h p false = refl
+nothing-by es ps h p true = refl
+nothing-by es ps h p false = refl
 
 pub unmeasured : (x : Line) (h : ℕ) → runsAt (measuredMasks (x .days)) h ≡ false → valuesAt x h ≡ zeroes
 unfolding valuesAt
 unmeasured x h t =
-    ap (λ (o : Slot Pair). plain (replaced x h o)) (slot-state (x .days) h)
-    ∙ ap (λ (n : ℕ). plain (replaced x h (slotIn n (pairIs (x .days) h)))) (state-other (runMasks (x .days)) (measuredMasks (x .days)) h t)
-    ∙ nothing-by x h (pairIs (x .days) h) (runsAt (runMasks (x .days)) h)
+    ap (λ (o : Slot Pair). plain (replaced (x .enforcement) (x .plant) h o)) (slot-state (x .days) h)
+    ∙ ap (λ (n : ℕ). plain (replaced (x .enforcement) (x .plant) h (slotIn n (pairIs (x .days) h)))) (state-other (runMasks (x .days)) (measuredMasks (x .days)) h t)
+    ∙ nothing-by (x .enforcement) (x .plant) h (pairIs (x .days) h) (runsAt (runMasks (x .days)) h)

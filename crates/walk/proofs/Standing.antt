@@ -129,19 +129,18 @@ unfolding masksOf
 kept-day x done place bytes v s runs measured flags conc flow out runs' measured' conc' flow' r k more turn t ok f =
     let d = dayOf bytes in
     let n = length (x .days) in
-    let b = k .books .bounded in
     let cv : ℕ → ℕ = λ i. getD (table (concentrationAt d) 24) i 0 in
     let lv : ℕ → ℕ = λ i. getD (table (flowAt d) 24) i 0 in
     let er : runs' ≡ set runs n (d .run) = t .runsNow ok ∙ ap (λ (i : ℕ). set runs i (d .run)) turn in
     let em : measured' ≡ set measured n (d .measured) = t .measuredNow ok ∙ ap (λ (i : ℕ). set measured i (d .measured)) turn in
     let ec : conc' ≡ patched cv 24 (24 * n) conc = t .concNow ok ∙ ap (λ (i : ℕ). patched cv 24 (24 * i) conc) turn in
     let el : flow' ≡ patched lv 24 (24 * n) flow = t .flowNow ok ∙ ap (λ (i : ℕ). patched lv 24 (24 * i) flow) turn in
-    let books = day-books x d b more cv lv (λ i l. day-c place d f i l ∙ sym (table-at (concentrationAt d) 24 i 0 l)) (λ i l. day-l place d f i l ∙ sym (table-at (flowAt d) 24 i 0 l)) (λ i l. subst (λ (m : ℕ). m ≤ 1_000_000) (sym (table-at (concentrationAt d) 24 i 0 l)) (concentration-most d i)) (λ i l. subst (λ (m : ℕ). m ≤ 5_000_000) (sym (table-at (flowAt d) 24 i 0 l)) (flow-most d i)) s runs measured flags conc flow (k .runsLong) (k .measuredLong) (k .books) in
+    let books = day-books x d (k .books) more cv lv (λ i l. day-c place d f i l ∙ sym (table-at (concentrationAt d) 24 i 0 l)) (λ i l. day-l place d f i l ∙ sym (table-at (flowAt d) 24 i 0 l)) (λ i l. subst (λ (m : ℕ). m ≤ 1_000_000) (sym (table-at (concentrationAt d) 24 i 0 l)) (concentration-most d i)) (λ i l. subst (λ (m : ℕ). m ≤ 5_000_000) (sym (table-at (flowAt d) 24 i 0 l)) (flow-most d i)) (k .runsLong) (k .measuredLong) in
     kept-line x (withDay x d) done v (r .view) s (r .sums) runs runs' measured measured' flags flags conc conc' flow flow' out k
     (t .view ok ∙ ap (λ (w : View). afterDay w (masksOf d)) (k .view) ∙ view-day x done d)
     (ap (λ (u : Sums). u .total1) (t .sums)) (ap (λ (u : Sums). u .total2) (t .sums)) (ap (λ (u : Sums). u .total3) (t .sums))
     (ap length er ∙ length-set runs n (d .run)) (ap length em ∙ length-set measured n (d .measured)) refl
-    (ap length ec ∙ patched-length cv 24 (24 * n) conc (omega (arith, b .period, k .concLong))) (ap length el ∙ patched-length lv 24 (24 * n) flow (omega (arith, b .period, k .flowLong)))
+    (ap length ec ∙ patched-length cv 24 (24 * n) conc (omega (arith, k .books .period, k .concLong))) (ap length el ∙ patched-length lv 24 (24 * n) flow (omega (arith, k .books .period, k .flowLong)))
     (books-as (withDay x d) books (t .sums) er em refl ec el)
 
 -- ---- surveys: an accepted pair's kept values are its values
@@ -195,7 +194,7 @@ module _ (x : Line) (done : List Line) (v : View) (s : Sums) (t : Survey) (runs 
     here = runsAt (measuredMasks (x .days)) (t .hour)
 
     within : t .hour < 2_208
-    within = omega (arith, k .books .bounded .period)
+    within = omega (arith, k .books .period)
 
     cell-c : (cells : List ℕ) → replacedCell here (t .hour) (surveyC t) cells ≡ replacedCell here (t .hour) (valuesOf (t .pair) .c) cells
     cell-c cells = ap (λ (n : ℕ). replacedCell here (t .hour) n cells) (survey-c t ok)
@@ -209,7 +208,7 @@ module _ (x : Line) (done : List Line) (v : View) (s : Sums) (t : Survey) (runs 
     pub kept-enforcement : (flags' conc' flow' : List ℕ) (r : Taken) → x .plant ≡ [] → EnforcementTaken v s t here flags conc flow flags' conc' flow' r
         → Kept (Inside (withEnforcement x t) done) (r .view) (r .sums) runs measured flags' conc' flow' out
     kept-enforcement flags' conc' flow' r none e =
-        let books = enforcement-books x t within (k .books .bounded) all-days none room (most-c t ok) (most-l t ok) hour s runs measured flags conc flow (k .books) in
+        let books = enforcement-books x t within (k .books) all-days none room (most-c t ok) (most-l t ok) hour in
         kept-line x (withEnforcement x t) done v (r .view) s (r .sums) runs runs measured measured flags flags' conc conc' flow flow' out k
         (e .view ∙ ap (λ (w : View). afterEnforcement w (t .hour)) (k .view) ∙ view-enforcement x done t)
         (ap (λ (u : Sums). u .total1) (e .sums)) (ap (λ (u : Sums). u .total2) (e .sums)) (ap (λ (u : Sums). u .total3) (e .sums))
@@ -219,7 +218,7 @@ module _ (x : Line) (done : List Line) (v : View) (s : Sums) (t : Survey) (runs 
 
     -- a flag is 1 where an enforcement survey stands
     flag-is : getD flags (t .hour) 0 ≡ flagAt (x .enforcement) (t .hour)
-    flag-is = ap (λ (l : List ℕ). getD l (t .hour) 0) (k .books .flagsKept) ∙ table-at (flagAt (x .enforcement)) 2_208 (t .hour) 0 within
+    flag-is = ap (λ (l : List ℕ). getD l (t .hour) 0) (k .books .surveys .flagged) ∙ table-at (flagAt (x .enforcement)) 2_208 (t .hour) 0 within
 
     module _ (conc' flow' : List ℕ) (r : Taken) (e : PlantTaken v s t here flags conc flow conc' flow' r) where
       plant-view : r .view ≡ viewOf (Inside (withPlant x t) done)
@@ -230,7 +229,7 @@ module _ (x : Line) (done : List Line) (v : View) (s : Sums) (t : Survey) (runs 
           let es : r .sums ≡ s = e .sums ∙ ap (withSurvey s) (e .put .weighs ∙ pick-on _ _ _ q) ∙ adds-nothing s in
           let ec : conc' ≡ conc = e .put .concentrations ∙ pick-on _ _ _ q in
           let el : flow' ≡ flow = e .put .flows ∙ pick-on _ _ _ q in
-          let books = beaten-books x t within (k .books .bounded) all-days room h s runs measured flags conc flow (k .books) in
+          let books = beaten-books x t within (k .books) all-days room h in
           kept-line x (withPlant x t) done v (r .view) s (r .sums) runs runs measured measured flags flags conc conc' flow flow' out k plant-view
           (ap (λ (u : Sums). u .total1) es) (ap (λ (u : Sums). u .total2) es) (ap (λ (u : Sums). u .total3) es)
           refl refl refl (ap length ec) (ap length el) (books-as (withPlant x t) books es refl refl refl ec el)
@@ -238,7 +237,7 @@ module _ (x : Line) (done : List Line) (v : View) (s : Sums) (t : Survey) (runs 
           let es : r .sums ≡ withSurvey s (standing (valuesOf (t .pair) .c) (valuesOf (t .pair) .l)) = e .sums ∙ stands (e .weighed) (e .put .weighs ∙ pick-off _ _ _ q) in
           let ec : conc' ≡ replacedCell here (t .hour) (valuesOf (t .pair) .c) conc = e .put .concentrations ∙ pick-off _ _ _ q ∙ cell-c conc in
           let el : flow' ≡ replacedCell here (t .hour) (valuesOf (t .pair) .l) flow = e .put .flows ∙ pick-off _ _ _ q ∙ cell-l flow in
-          let books = plant-books x t within (k .books .bounded) all-days room h (most-c t ok) (most-l t ok) s runs measured flags conc flow (k .books) in
+          let books = plant-books x t within (k .books) all-days room h (most-c t ok) (most-l t ok) in
           kept-line x (withPlant x t) done v (r .view) s (r .sums) runs runs measured measured flags flags conc conc' flow flow' out k plant-view
           (ap (λ (u : Sums). u .total1) es) (ap (λ (u : Sums). u .total2) es) (ap (λ (u : Sums). u .total3) es)
           refl refl refl (ap length ec ∙ pick-length here conc (t .hour) (valuesOf (t .pair) .c)) (ap length el ∙ pick-length here flow (t .hour) (valuesOf (t .pair) .l))
@@ -250,11 +249,11 @@ module _ (x : Line) (done : List Line) (v : View) (s : Sums) (t : Survey) (runs 
 
 -- ---- a batch
 pub kept-batch : (x : Line) (done : List Line) (v : View) (s : Sums) (b : Batch) (runs measured flags conc flow out : List ℕ) (r : Taken)
-    → Kept (Inside x done) v s runs measured flags conc flow out → length (x .batches) < 92 → b .kg + fuel (x .batches) ≤ 10_000_000_000 → b .sulphur ≤ 2_000 → b .ash ≤ 10_000
+    → Kept (Inside x done) v s runs measured flags conc flow out → b .kg + fuel (x .batches) ≤ 10_000_000_000 → b .sulphur ≤ 2_000 → b .ash ≤ 10_000
     → BatchTaken v s b r → Kept (Inside (withBatch x b) done) (r .view) (r .sums) runs measured flags conc flow out
-kept-batch x done v s b runs measured flags conc flow out r k room most sm am e =
+kept-batch x done v s b runs measured flags conc flow out r k most sm am e =
     kept-line x (withBatch x b) done v (r .view) s (r .sums) runs runs measured measured flags flags conc conc flow flow out k
     (e .view ∙ ap (λ (w : View). afterBatch w (b .kg)) (k .view) ∙ view-batch x done b)
     (ap (λ (u : Sums). u .total1) (e .sums)) (ap (λ (u : Sums). u .total2) (e .sums)) (ap (λ (u : Sums). u .total3) (e .sums))
     refl refl refl refl refl
-    (books-as (withBatch x b) (batch-books x b (k .books .bounded) room most sm am s runs measured flags conc flow (k .books)) (e .sums) refl refl refl refl refl)
+    (books-as (withBatch x b) (batch-books x b (k .books) most sm am) (e .sums) refl refl refl refl refl)

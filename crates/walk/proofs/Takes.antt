@@ -35,18 +35,18 @@ use Rattle.judge.proofs.Laws.{SurveyOk, EndOk, head-ok, day-ok, enforcement-ok,
 use Rattle.hours.proofs.Laws.{running-period, missing-period}
 use Rattle.walk.specs.declared.books.Sums.{Sums}
 use Rattle.walk.specs.declared.take.Taken.{Taken}
-use Rattle.walk.specs.Books.{Bounded, Kept}
+use Rattle.walk.specs.Books.{Kept}
 use Rattle.walk.specs.Taking.{HeadTaken, DayTaken, EnforcementTaken, PlantTaken, BatchTaken, EndReady, EndTaken}
 use Rattle.walk.specs.Walking.{whole, laterFault, Ready, Took}
 use Rattle.walk.proofs.Standing.{kept-head, kept-day, kept-enforcement, kept-plant, kept-batch}
-use Rattle.walk.proofs.Ending.{method-is, table-limits, in-range, kept-end}
+use Rattle.walk.proofs.Ending.{method-is, cells-most, kept-end}
 use Rattle.walk.proofs.Masks.{runs-kept, states-kept, first-kept}
 use Rattle.walk.proofs.Steps.{surveyed-most}
 use Rattle.rules.proofs.Method.{manual-surveyed}
 use Rattle.walk.specs.Closing.{gramsIn}
 use Rattle.period.specs.Period.{periodStates}
 use Rattle.method.specs.Open.{lineMethod}
-use Rattle.fuel.specs.Fuel.{fuelFigure, ashOf}
+use Rattle.fuel.specs.Fuel.{fuelFigure, ashOf, InRange}
 use Rattle.fuel.specs.declared.FuelFigure.{FuelFigure}
 use Rattle.fuel.proofs.Figures.{line-figure, line-wanting, grams-fit}
 use Rattle.walk.proofs.Views.{survey-count}
@@ -107,21 +107,21 @@ unfolding surveys
 surveys-are x = refl
 
 -- fuel's own figure is never too large
-module _ (x : Line) (b : Bounded x) where
+module _ (h : Head) (batches : List Batch) (i : InRange batches) where
   abbrev figureNow : FuelFigure
-  figureNow = fuelFigure (x .head) (fuel (x .batches)) (sulphurOf (x .batches)) (ashOf (x .batches))
+  figureNow = fuelFigure h (fuel batches) (sulphurOf batches) (ashOf batches)
 
-  found-most : (coefficientsOf (x .head) ≡ NoEntry → ⊥) → gramsIn figureNow ≤ 20_000_000_000_000
-  found-most n = subst (λ (f : FuelFigure). gramsIn f ≤ 20_000_000_000_000) (sym (line-figure (x .head) (x .batches) (in-range x b) n)) (omega (arith, grams-fit (x .head) (x .batches) (in-range x b)))
+  found-most : (coefficientsOf h ≡ NoEntry → ⊥) → gramsIn figureNow ≤ 20_000_000_000_000
+  found-most n = subst (λ (f : FuelFigure). gramsIn f ≤ 20_000_000_000_000) (sym (line-figure h batches i n)) (omega (arith, grams-fit h batches i))
 
-  fuel-by : (c : Coefficients) → coefficientsOf (x .head) ≡ c → gramsIn figureNow ≤ 20_000_000_000_000
-  fuel-by NoEntry e = subst (λ (f : FuelFigure). gramsIn f ≤ 20_000_000_000_000) (sym (line-wanting (x .head) (x .batches) (in-range x b) e)) (omega arith)
+  fuel-by : (c : Coefficients) → coefficientsOf h ≡ c → gramsIn figureNow ≤ 20_000_000_000_000
+  fuel-by NoEntry e = subst (λ (f : FuelFigure). gramsIn f ≤ 20_000_000_000_000) (sym (line-wanting h batches i e)) (omega arith)
   fuel-by (Balance q k) e = found-most (λ z. let t : _≡_ {A = ℕ} 0 1 = cc in omega arith)
   fuel-by (Oxides q) e = found-most (λ z. let t : _≡_ {A = ℕ} 0 1 = cc in omega arith)
   fuel-by (Dust q k) e = found-most (λ z. let t : _≡_ {A = ℕ} 0 1 = cc in omega arith)
 
   fuel-most : gramsIn figureNow ≤ 20_000_000_000_000
-  fuel-most = fuel-by (coefficientsOf (x .head)) refl
+  fuel-most = fuel-by (coefficientsOf h) refl
 
 days-all : (x : Line) (done : List Line) {v : View} → v ≡ viewOf (Inside x done) → v .days ≡ v .head .days → length (x .days) ≡ x .head .days
 unfolding viewOf
@@ -181,9 +181,9 @@ module _ (at : ℕ) (bytes : List ℕ) (v : View) (s : Sums) (runs measured flag
     pub room : surveys x < 120
     pub pair : PairAccepted (t .pair)
 
-  survey-facts : (x : Line) (done : List Line) (floor : ℕ) (rs : List ℕ) (t : Survey) → v ≡ viewOf (Inside x done) → SurveyOk v rs floor t → SurveyFacts x t
+  survey-facts : (x : Line) (done : List Line) (t : Survey) → v ≡ viewOf (Inside x done) → SurveyOk v t → SurveyFacts x t
   unfolding viewOf surveys
-  survey-facts x done floor rs t e ok =
+  survey-facts x done t e ok =
       record {
         hour = omega (arith, ok .in-period, ap (λ (w : View). w .head .days) e);
         all-days = sym (ap (λ (w : View). w .days) e) ∙ ok .days-done ∙ ap (λ (w : View). w .head .days) e;
@@ -193,7 +193,7 @@ module _ (at : ℕ) (bytes : List ℕ) (v : View) (s : Sums) (runs measured flag
 
   -- whether a survey's hour is measured, by the masks that are kept
   measured-here : (x : Line) (done : List Line) (t : Survey) → Kept (Inside x done) v s runs measured flags conc flow out → SurveyFacts x t → runsAt measured (t .hour) ≡ runsAt (measuredMasks (x .days)) (t .hour)
-  measured-here x done t k f = runs-kept (length (x .days)) measured (measuredMasks (x .days)) (t .hour) (k .books .measuredKept) (omega (arith, f .hour, f .all-days))
+  measured-here x done t k f = runs-kept (length (x .days)) measured (measuredMasks (x .days)) (t .hour) (k .books .masks .measuredKept) (omega (arith, f .hour, f .all-days))
 
   no-plant : (x : Line) (done : List Line) → v ≡ viewOf (Inside x done) → v .plant .count ≡ 0 → x .plant ≡ []
   unfolding viewOf
@@ -206,7 +206,7 @@ module _ (at : ℕ) (bytes : List ℕ) (v : View) (s : Sums) (runs measured flag
       absurd (between-out done v (k .kept .view) (enforcement-ok at v (runsOf (Between done)) t (rw q at (k .passed)) .1 .inside))
   took-enforcement (Inside x done) r t flags' conc' flow' u q k e =
       let ok = enforcement-ok at v (runsOf (Inside x done)) t (rw q at (k .passed)) in
-      let f = survey-facts x done _ _ t (k .kept .view) (ok .1) in
+      let f = survey-facts x done t (k .kept .view) (ok .1) in
       rw q (record {
         faults = e .faults;
         stays = λ _.
@@ -221,7 +221,7 @@ module _ (at : ℕ) (bytes : List ℕ) (v : View) (s : Sums) (runs measured flag
       absurd (between-out done v (k .kept .view) (plant-ok at v (runsOf (Between done)) t (rw q at (k .passed)) .inside))
   took-plant (Inside x done) r t conc' flow' u q k e =
       let ok = plant-ok at v (runsOf (Inside x done)) t (rw q at (k .passed)) in
-      let f = survey-facts x done _ _ t (k .kept .view) ok in
+      let f = survey-facts x done t (k .kept .view) ok in
       rw q (record {
         faults = e .faults;
         stays = λ _.
@@ -239,7 +239,7 @@ module _ (at : ℕ) (bytes : List ℕ) (v : View) (s : Sums) (runs measured flag
       rw q (record {
         faults = e .faults;
         stays = λ _.
-            kept-batch x done v s b runs measured flags conc flow out u (k .kept) (omega (arith, ok .room, ap (λ (w : View). w .batches) (k .kept .view)))
+            kept-batch x done v s b runs measured flags conc flow out u (k .kept)
             (omega (arith, ok .fuel-most, ap (λ (w : View). w .fuel) (k .kept .view))) (ok .sulphur-most) (ok .ash-most) e;
       })
 
@@ -259,8 +259,8 @@ module _ (at : ℕ) (bytes : List ℕ) (v : View) (s : Sums) (runs measured flag
       let ok = end-ok at v (runsOf (Inside x done)) (rw q at (k .passed)) in
       let a : length (x .days) ≡ x .head .days = days-all x done (k .kept .view) (ok .days-done) in
       let n : length (x .days) ≡ v .head .days = a ∙ sym (ap (λ (w : View). w .head .days) (k .kept .view)) in
-      let kr : take (v .head .days) runs ≡ runMasks (x .days) = ap (λ (i : ℕ). take i runs) (sym n) ∙ k .kept .books .runsKept in
-      let km : take (v .head .days) measured ≡ measuredMasks (x .days) = ap (λ (i : ℕ). take i measured) (sym n) ∙ k .kept .books .measuredKept in
+      let kr : take (v .head .days) runs ≡ runMasks (x .days) = ap (λ (i : ℕ). take i runs) (sym n) ∙ k .kept .books .masks .runsKept in
+      let km : take (v .head .days) measured ≡ measuredMasks (x .days) = ap (λ (i : ℕ). take i measured) (sym n) ∙ k .kept .books .masks .measuredKept in
       rw q (record {
         faults = e .faults;
         stays = λ _.
@@ -272,7 +272,7 @@ module _ (at : ℕ) (bytes : List ℕ) (v : View) (s : Sums) (runs measured flag
   pub days-lent : (stand : Stand) → Kept stand v s runs measured flags conc flow out → v .days ≤ 92
   unfolding viewOf
   days-lent (Between done) k = omega (arith, ap (λ (w : View). w .days) (k .view))
-  days-lent (Inside x done) k = omega (arith, ap (λ (w : View). w .days) (k .view), k .books .bounded .days, k .books .bounded .period)
+  days-lent (Inside x done) k = omega (arith, ap (λ (w : View). w .days) (k .view), k .books .days, k .books .period)
 
   pub ready-day : (stand : Stand) (r : Record) (m : DayMasks) → r ≡ OfDay m → Ready stand at bytes r v s runs measured flags conc flow out
       → (m .number < 92) × (length conc ≡ 2_208) × (length flow ≡ 2_208) × (v .days < 92) × (v .running ≤ 2_208) × (v .missing ≤ 2_208)
@@ -281,7 +281,7 @@ module _ (at : ℕ) (bytes : List ℕ) (v : View) (s : Sums) (runs measured flag
   ready-day (Inside x done) r m q k =
       let ok = day-ok at v (runsOf (Inside x done)) m (rw q at (k .passed)) in
       let e = k .kept .view in
-      let b = k .kept .books .bounded in
+      let b = k .kept .books in
       let n : v .days < 92 = omega (arith, ok .room, ap (λ (w : View). w .head .days) e, b .period) in (
         omega (arith, ok .turn),
         k .kept .concLong,
@@ -293,34 +293,34 @@ module _ (at : ℕ) (bytes : List ℕ) (v : View) (s : Sums) (runs measured flag
 
   weights-most : (x : Line) (done : List Line) → Kept (Inside x done) v s runs measured flags conc flow out → (s .surveyed ≤ 120) × (s .weight ≤ 600_000_000_000_000)
   weights-most x done k =
-      let b = k .books .bounded in
-      (omega (arith, k .books .surveyedKept, surveyed-most x, b .surveyCount), omega (arith, k .books .weightKept, b .surveyWeights, surveyed-most x, b .surveyCount))
+      let y = k .books .surveys in
+      (omega (arith, y .counted, surveyed-most x, k .books .few), omega (arith, y .weighed, y .most, surveyed-most x, k .books .few))
 
   pub ready-enforcement : (stand : Stand) (r : Record) (t : Survey) → r ≡ OfEnforcement t → Ready stand at bytes r v s runs measured flags conc flow out
       → (t .hour < 2_208) × (length conc ≡ 2_208) × (length flow ≡ 2_208) × (v .enforcement .count < 120) × (s .surveyed < 120) × (s .weight ≤ 600_000_000_000_000)
   ready-enforcement (Between done) r t q k = absurd (between-out done v (k .kept .view) (enforcement-ok at v (runsOf (Between done)) t (rw q at (k .passed)) .1 .inside))
   ready-enforcement (Inside x done) r t q k =
       let ok = enforcement-ok at v (runsOf (Inside x done)) t (rw q at (k .passed)) .1 in
-      let f = survey-facts x done _ _ t (k .kept .view) ok in
-      let b = k .kept .books .bounded in
-      (omega (arith, f .hour, b .period), k .kept .concLong, k .kept .flowLong, omega (arith, ok .room), omega (arith, k .kept .books .surveyedKept, surveyed-most x, f .room), weights-most x done (k .kept) .1)
+      let f = survey-facts x done t (k .kept .view) ok in
+      let b = k .kept .books in
+      (omega (arith, f .hour, b .period), k .kept .concLong, k .kept .flowLong, omega (arith, ok .room), omega (arith, b .surveys .counted, surveyed-most x, f .room), weights-most x done (k .kept) .1)
 
   pub ready-plant : (stand : Stand) (r : Record) (t : Survey) → r ≡ OfPlant t → Ready stand at bytes r v s runs measured flags conc flow out
       → (t .hour < 2_208) × (length conc ≡ 2_208) × (length flow ≡ 2_208) × (v .plant .count < 120) × (s .surveyed < 120) × (s .weight ≤ 600_000_000_000_000)
   ready-plant (Between done) r t q k = absurd (between-out done v (k .kept .view) (plant-ok at v (runsOf (Between done)) t (rw q at (k .passed)) .inside))
   ready-plant (Inside x done) r t q k =
       let ok = plant-ok at v (runsOf (Inside x done)) t (rw q at (k .passed)) in
-      let f = survey-facts x done _ _ t (k .kept .view) ok in
-      let b = k .kept .books .bounded in
-      (omega (arith, f .hour, b .period), k .kept .concLong, k .kept .flowLong, omega (arith, ok .room), omega (arith, k .kept .books .surveyedKept, surveyed-most x, f .room), weights-most x done (k .kept) .1)
+      let f = survey-facts x done t (k .kept .view) ok in
+      let b = k .kept .books in
+      (omega (arith, f .hour, b .period), k .kept .concLong, k .kept .flowLong, omega (arith, ok .room), omega (arith, b .surveys .counted, surveyed-most x, f .room), weights-most x done (k .kept) .1)
 
   pub ready-batch : (stand : Stand) (r : Record) (b : Batch) → r ≡ OfBatch b → Ready stand at bytes r v s runs measured flags conc flow out
       → (v .batches < 92) × (b .kg + v .fuel ≤ 10_000_000_000) × (b .ash ≤ 10_000) × (s .ash ≤ 100_000_000_000_000)
   ready-batch (Between done) r b q k = absurd (between-out done v (k .kept .view) (batch-ok at v (runsOf (Between done)) b (rw q at (k .passed)) .inside))
   ready-batch (Inside x done) r b q k =
       let ok = batch-ok at v (runsOf (Inside x done)) b (rw q at (k .passed)) in
-      let m = k .kept .books .bounded in
-      (ok .room, omega (arith, ok .fuel-most), ok .ash-most, omega (arith, k .kept .books .ashKept, m .ashMost, m .fuelMost))
+      let m = k .kept .books .fuel in
+      (ok .room, omega (arith, ok .fuel-most), ok .ash-most, omega (arith, m .summed, m .range .ash, m .range .kg))
 
   pub ready-end : (stand : Stand) (r : Record) → r ≡ OfEnd → Ready stand at bytes r v s runs measured flags conc flow out → EndReady v s conc flow
   unfolding viewOf
@@ -328,22 +328,21 @@ module _ (at : ℕ) (bytes : List ℕ) (v : View) (s : Sums) (runs measured flag
   ready-end (Inside x done) r q k =
       let e = k .kept .view in
       let y = k .kept .books in
-      let b = y .bounded in
       let w = weights-most x done (k .kept) in
       let z : fuelFigure (v .head) (v .fuel) (s .sulphur) (s .ash) ≡ fuelFigure (x .head) (fuel (x .batches)) (sulphurOf (x .batches)) (ashOf (x .batches)) =
-      rw (ap (λ (w : View). w .head) e, ap (λ (w : View). w .fuel) e, y .sulphurKept, y .ashKept) refl in
+      rw (ap (λ (w : View). w .head) e, ap (λ (w : View). w .fuel) e, y .fuel .largest, y .fuel .summed) refl in
       record {
-        days = omega (arith, ap (λ (w : View). w .head .days) e, b .period);
+        days = omega (arith, ap (λ (w : View). w .head .days) e, y .period);
         concLong = k .kept .concLong;
         flowLong = k .kept .flowLong;
-        limits = rw (y .concKept, y .flowKept) (table-limits x b);
-        counts = omega (arith, ap (λ (w : View). w .enforcement .count) e, ap (λ (w : View). w .plant .count) e, survey-count (x .enforcement), survey-count (x .plant), surveys-are x, b .surveyCount);
-        some = λ m. subst (λ (i : ℕ). 0 < i) (sym (y .surveyedKept)) (manual-surveyed x (sym (ap lineMethod e ∙ method-is x done) ∙ m));
+        limits = record { concentrations = cells-most (y .concentrations); flows = cells-most (y .flows) };
+        counts = omega (arith, ap (λ (w : View). w .enforcement .count) e, ap (λ (w : View). w .plant .count) e, survey-count (x .enforcement), survey-count (x .plant), surveys-are x, y .few);
+        some = λ m. subst (λ (i : ℕ). 0 < i) (sym (y .surveys .counted)) (manual-surveyed x (sym (ap lineMethod e ∙ method-is x done) ∙ m));
         surveyed = w .0;
         weight = w .1;
-        running = omega (arith, ap (λ (w : View). w .running) e, running-period (x .days), b .days, b .period);
+        running = omega (arith, ap (λ (w : View). w .running) e, running-period (x .days), y .days, y .period);
         lines = omega (arith, ap (λ (w : View). w .lines) e, k .kept .lines);
-        fuel = subst (λ (f : FuelFigure). gramsIn f ≤ 20_000_000_000_000) (sym z) (fuel-most x b);
+        fuel = subst (λ (f : FuelFigure). gramsIn f ≤ 20_000_000_000_000) (sym z) (fuel-most (x .head) (x .batches) (y .fuel .range));
         total1 = omega (arith, k .kept .most1, k .kept .lines);
         total2 = omega (arith, k .kept .most2, k .kept .lines);
         total3 = omega (arith, k .kept .most3, k .kept .lines);

@@ -14,11 +14,7 @@ use Rattle.rules.specs.Hours.{running, lacking}
 use Rattle.rules.specs.Lines.{Line, fuel}
 use Rattle.rules.specs.Walk.{Between, Inside, noHead, viewOf, floorOf, surveysOf, begun, withDay, withEnforcement, withPlant, withBatch}
 use Rattle.record.specs.Flat.{masksOf}
-use Rattle.walk.specs.Views.{noSurveys, oneMore, openedView, afterHead, afterDay, afterEnforcement, afterPlant, afterBatch, afterEnd}
-
-pub no-surveys : surveysOf [] ≡ noSurveys
-unfolding surveysOf
-no-surveys = refl
+use Rattle.walk.specs.Views.{oneMore, openedView, afterHead, afterDay, afterEnforcement, afterPlant, afterBatch, afterEnd}
 
 pub survey-count : (ss : List Survey) → surveysOf ss .count ≡ length ss
 unfolding surveysOf

@@ -6,15 +6,17 @@ use lib.ListN.{length, take, drop, getD, replicate}
 use Rattle.law.specs.Words.{pick, sumOf, table, over}
 use Rattle.rules.specs.declared.Pair.{Pair}
 use Rattle.rules.specs.declared.Survey.{Survey}
+use Rattle.rules.specs.declared.Batch.{Batch}
 use Rattle.rules.specs.declared.View.{View}
+use Rattle.rules.specs.Records.{Day}
 use Rattle.rules.specs.Slots.{Slot, valid, missing, stopped}
 use Rattle.rules.specs.Hours.{slotsOf, runMasks, measuredMasks}
-use Rattle.rules.specs.Lines.{Line, replaced, hasSurvey, surveyed, surveys, fuel}
+use Rattle.rules.specs.Lines.{Line, replaced, hasSurvey, surveyed, surveys as surveysIn}
 use Rattle.rules.specs.Fill.{Values, zeroes}
 use Rattle.rules.specs.Grams.{valuesOf, amount, surveyValues, sulphurOf}
 use Rattle.rules.specs.Row.{rowsOf, totalOf, concentrationCells, flowCells}
 use Rattle.rules.specs.Walk.{Stand, Between, Inside, viewOf}
-use Rattle.fuel.specs.Fuel.{ashOf}
+use Rattle.fuel.specs.Fuel.{ashOf, InRange}
 use Rattle.walk.specs.declared.books.Sums.{Sums}
 
 -- the rows of no line, in cells for 48
@@ -33,40 +35,48 @@ plain stopped = zeroes
 
 -- the values of hour h of a line so far; past its days 0
 unfoldable pub valuesAt : Line → ℕ → Values
-valuesAt x h = plain (replaced x h (getD (slotsOf (x .days)) h stopped))
+valuesAt x h = plain (replaced (x .enforcement) (x .plant) h (getD (slotsOf (x .days)) h stopped))
 
 -- 1 where an hour has an enforcement survey
 unfoldable pub flagAt : List Survey → ℕ → ℕ
 flagAt enforcement h = pick (hasSurvey h enforcement) 1 0
 
--- what a line that is taken in so far stays within
-pub record Bounded (x : Line) : Type 0 where
+-- the masks of the days so far
+pub record MasksKept (days : List Day) (runs measured : List ℕ) : Type 0 where
+  pub runsKept : take (length days) runs ≡ runMasks days
+  pub measuredKept : take (length days) measured ≡ measuredMasks days
+
+-- one quantity of every hour, within its limit
+pub record CellsKept (value : ℕ → ℕ) (most : ℕ) (cells : List ℕ) : Type 0 where
+  pub hold : cells ≡ table value 2_208
+  pub within : (h : ℕ) → value h ≤ most
+
+-- the surveys so far: a flag for each of the enforcement, and n and the sum of c x l of the distinct ones
+pub record SurveysKept (days : ℕ) (enforcement distinct : List Survey) (count weight : ℕ) (flags : List ℕ) : Type 0 where
+  pub flagged : flags ≡ table (flagAt enforcement) 2_208
+  pub past : (h : ℕ) → 24 * days ≤ h → getD flags h 0 ≡ 0
+  pub counted : count ≡ length distinct
+  pub weighed : weight ≡ sumOf (λ s. amount (surveyValues s)) distinct
+  pub most : sumOf (λ s. amount (surveyValues s)) distinct ≤ length distinct * 5_000_000_000_000
+
+-- the batches so far
+pub record FuelKept (batches : List Batch) (sulphur ash : ℕ) : Type 0 where
+  pub largest : sulphur ≡ sulphurOf batches
+  pub summed : ash ≡ ashOf batches
+  pub range : InRange batches
+
+-- what the code holds of an open line. No survey comes before the last day
+pub record LineBooks (x : Line) (s : Sums) (runs measured flags conc flow : List ℕ) : Type 0 where
+  pub masks : MasksKept (x .days) runs measured
+  pub concentrations : CellsKept (λ h. valuesAt x h .c) 1_000_000 conc
+  pub flows : CellsKept (λ h. valuesAt x h .l) 5_000_000 flow
+  pub surveys : SurveysKept (x .head .days) (x .enforcement) (surveyed x) (s .surveyed) (s .weight) flags
+  pub fuel : FuelKept (x .batches) (s .sulphur) (s .ash)
+  pub used : s .used ≡ 24 * x .head .days
   pub period : x .head .days ≤ 92
   pub days : length (x .days) ≤ x .head .days
   pub early : length (x .days) < x .head .days → (x .enforcement ≡ []) × (x .plant ≡ [])
-  pub surveyCount : surveys x ≤ 120
-  pub surveyWeights : sumOf (λ s. amount (surveyValues s)) (surveyed x) ≤ length (surveyed x) * 5_000_000_000_000
-  pub batchCount : length (x .batches) ≤ 92
-  pub fuelMost : fuel (x .batches) ≤ 10_000_000_000
-  pub sulphurMost : sulphurOf (x .batches) ≤ 2_000
-  pub ashMost : ashOf (x .batches) ≤ 10_000 * fuel (x .batches)
-  pub concentrations : (h : ℕ) → valuesAt x h .c ≤ 1_000_000
-  pub flows : (h : ℕ) → valuesAt x h .l ≤ 5_000_000
-
--- what the code holds of an open line
-pub record LineBooks (x : Line) (s : Sums) (runs measured flags conc flow : List ℕ) : Type 0 where
-  pub runsKept : take (length (x .days)) runs ≡ runMasks (x .days)
-  pub measuredKept : take (length (x .days)) measured ≡ measuredMasks (x .days)
-  pub flagsKept : flags ≡ table (flagAt (x .enforcement)) 2_208
-  pub concKept : conc ≡ table (λ h. valuesAt x h .c) 2_208
-  pub flowKept : flow ≡ table (λ h. valuesAt x h .l) 2_208
-  pub surveyedKept : s .surveyed ≡ length (surveyed x)
-  pub weightKept : s .weight ≡ sumOf (λ t. amount (surveyValues t)) (surveyed x)
-  pub sulphurKept : s .sulphur ≡ sulphurOf (x .batches)
-  pub ashKept : s .ash ≡ ashOf (x .batches)
-  pub usedKept : s .used ≡ 24 * x .head .days
-  pub flagsPast : (h : ℕ) → 24 * x .head .days ≤ h → getD flags h 0 ≡ 0
-  pub bounded : Bounded x
+  pub few : surveysIn x ≤ 120
 
 -- what the cells hold between two lines: past those that the newest line used they are 0
 pub record DoneCells (done : List Line) (used : ℕ) (flags conc flow : List ℕ) : Type 0 where

@@ -1,5 +1,6 @@
 -- `fuel::fuel_figure` meets its contract: its tests are the rule's, taken together. Assumes nothing.
 use mathlib.Core.Path.{_∙_}
+use native.Mathlib.Omega.{arith}
 use Rattle.law.proofs.Tests.{need-true, need-false, need-both}
 use Rattle.fuel.specs.Fuel.{fuelFigure}
 use Rattle.fuel.proofs.Figures.{in-range-tests}
@@ -7,7 +8,7 @@ use Rattle.fuel.proofs.fuel_figure.Statement.{statement}
 use Rattle.fuel.proofs.fuel_figure.Tie as tie
 
 figure-requires : tie.Need-figure-requires
-figure-requires c κs = in-range-tests _ _ _ (c .if1 .taken)
+figure-requires c κs = in-range-tests _ _ _ _ _ _ (c .if1 .taken) (omega arith) (omega arith) (omega arith)
 
 returns : tie.Need-returns
 unfolding fuelFigure
