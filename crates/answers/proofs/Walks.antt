@@ -1,20 +1,20 @@
 -- Every file's outcome: a refusal has a number, and at most 48 lines are accepted. Assumes nothing.
 use mathlib.Core.Path.{_≡_, refl, ap, _∙_, subst}
-use mathlib.Core.Bool.{Bool, true, false, not}
+use mathlib.Core.Bool.{Bool, true, false}
 use mathlib.Core.List.{List, [], _∷_}
 use Prim.Native.Nat.{ℕ, _≤_, _<_}
 use native.Mathlib.Omega.{arith}
 use lib.ListN.{length}
-use lib.Dec.{leb, ltb, eqb}
+use lib.Dec.{eqb}
 use borrow.Author.Tests.{ltb-true, eqb-true, eqb-false}
 use Rattle.law.specs.Words.{need}
-use Rattle.law.proofs.Tests.{pick-case}
+use Rattle.law.proofs.Tests.{pick-case, all-passed}
 use Rattle.rules.specs.declared.Head.{Head}
 use Rattle.rules.specs.declared.View.{View}
 use Rattle.rules.specs.declared.Fault.{Fault}
 use Rattle.rules.specs.Records.{Record, Bad, IsHead, IsDay, IsEnforcement, IsPlant, IsBatch, IsEnd, Placed, recordsOf}
 use Rattle.rules.specs.Lines.{Line}
-use Rattle.rules.specs.Judge.{refuse, first, key, placeHead, rangeHead, judge}
+use Rattle.rules.specs.Judge.{refuse, fine, first, placeHead, rangeHead, judge}
 use Rattle.rules.specs.Walk.{Stand, Between, Inside, viewOf, runsOf, taken, takenBetween, takenInside, Outcome, Refused, Accepted, ended, faultOf, walk, outcome}
 
 -- ---- a refusal has a number
@@ -51,18 +51,9 @@ first-passed f g z = by (eqb (f .number) 0) refl z
     by true e h = eqb-true (f .number) 0 e
     by false e h = h
 
--- a test whose refusal has a number was passed
-passed : (n : ℕ) (at : ℕ) (t : Bool) (rest : Fault) → 0 < n → need (refuse n at) t rest .number ≡ 0 → (t ≡ true) × (rest .number ≡ 0)
-unfolding need refuse
-passed n at true rest p z = (refl, z)
-passed n at false rest p z = absurd (omega arith)
-
 head-room : (at : ℕ) (v : View) (h : Head) → first (placeHead at v h) (rangeHead at h) .number ≡ 0 → v .lines < 48
-unfolding placeHead
-head-room at v h z =
-    let a = passed 2 at (not (v .inside)) _ (omega arith) (first-passed (placeHead at v h) (rangeHead at h) z) in
-    let b = passed 2 at (leb (v .floor) (key h)) _ (omega arith) (a .1) in
-    ltb-true (v .lines) 48 (passed 2 at (ltb (v .lines) 48) _ (omega arith) (b .1) .0)
+unfolding placeHead refuse
+head-room at v h z = ltb-true (v .lines) 48 (all-passed (λ f. f .number ≡ 0) (refuse 2 at) fine (λ e. omega arith) _ (first-passed (placeHead at v h) (rangeHead at h) z) 2)
 
 room-on : (at : ℕ) (stand : Stand) (r : Record) → Room stand → judge at (viewOf stand) (runsOf stand) r .number ≡ 0 → Room (taken stand r)
 unfolding Room taken takenBetween takenInside judge viewOf

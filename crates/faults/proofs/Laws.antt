@@ -1,11 +1,13 @@
 -- Faults in a row: the first of them, and what it says that there is none. Assumes nothing.
 use Prim.Native.Nat.{ℕ}
 use mathlib.Core.Bool.{Bool, true, false}
+use mathlib.Core.List.{List, [], _∷_}
 use mathlib.Core.Path.{_≡_, refl, sym, ap, ap₂, _∙_}
 use native.Mathlib.Omega.{arith}
+use lib.ListN.{getD}
 use lib.Dec.{eqb}
-use Rattle.law.specs.Words.{need, pick}
-use Rattle.law.proofs.Tests.{need-false, need-case, pick-case}
+use Rattle.law.specs.Words.{need, needAll, pick}
+use Rattle.law.proofs.Tests.{need-false, need-case, pick-case, all-passed}
 use Rattle.rules.specs.declared.Fault.{Fault}
 use Rattle.rules.specs.Judge.{refuse, fine, first}
 
@@ -51,13 +53,18 @@ pub stands-need : (number place : ℕ) (t : Bool) (f : Fault) → eqb number 0 �
 stands-need number place t f e s =
     need-case (λ (x : Fault). first x fine ≡ x) (refuse number place) t f (λ _. sym (first-refused number place fine e)) (λ _. s)
 
+pub stands-all : (number place : ℕ) (ts : List Bool) (f : Fault) → eqb number 0 ≡ false → Stands f → Stands (needAll (refuse number place) ts f)
+unfolding needAll
+stands-all number place [] f e s = s
+stands-all number place (t ∷ ts) f e s = stands-need number place t _ e (stands-all number place ts f e s)
+
 pub stands-pick : (t : Bool) (f g : Fault) → Stands f → Stands g → Stands (pick t f g)
 stands-pick t f g p q = pick-case (λ (x : Fault). first x fine ≡ x) t f g (λ _. p) (λ _. q)
 
 pub stands-first : (f g : Fault) → Stands g → Stands (first f g)
 stands-first f g s = first-first f g fine ∙ ap (first f) s
 
-pub ruleset stands = (stands-fine, stands-need, stands-pick, stands-first)
+pub ruleset stands = (stands-fine, stands-need, stands-all, stands-pick, stands-first)
 
 refuses : (t : Bool) → t ≡ false → t ≡ true → ⊥
 refuses t p q = let z : _≡_ {A = ℕ} 0 1 = cc in omega arith
@@ -67,6 +74,10 @@ pub passed : (number place : ℕ) (t : Bool) (f : Fault) → eqb number 0 ≡ fa
 unfolding need refuse fine
 passed number place true f e h = (refl, h)
 passed number place false f e h = absurd (refuses (eqb number 0) e (ap (λ (x : Fault). eqb (x .number) 0) h))
+
+pub each-passed : (number place : ℕ) (ts : List Bool) → eqb number 0 ≡ false → needAll (refuse number place) ts fine ≡ fine → (i : ℕ) → getD ts i true ≡ true
+unfolding refuse fine
+each-passed number place ts e = all-passed (λ f. f ≡ fine) (refuse number place) fine (λ h. refuses (eqb number 0) e (ap (λ (x : Fault). eqb (x .number) 0) h)) ts
 
 passed-by : (f g : Fault) (t : Bool) → eqb (f .number) 0 ≡ t → need f t fine ≡ f → need f t g ≡ fine → (f ≡ fine) × (g ≡ fine)
 unfolding need fine

@@ -1,10 +1,11 @@
 -- Laws of judging: what refuses a record as the code holds it refuses the record, and what a record that is not refused has. Assumes nothing.
-use Prim.Native.Nat.{ℕ, _+_, _*_, _<_, _≤_}
+use Prim.Native.Nat.{ℕ, suc, _+_, _*_, _<_, _≤_}
 use mathlib.Core.Bool.{Bool, true, false, not}
 use mathlib.Core.List.{List}
 use mathlib.Core.Path.{_≡_, refl, sym, ap, subst, _∙_}
 use native.Mathlib.Omega.{arith}
-use lib.Dec.{leb, ltb, eqb}
+use lib.ListN.{getD}
+use lib.Dec.{ltb}
 use borrow.Author.Tests.{leb-true, ltb-true, eqb-true}
 use Rattle.law.proofs.Tests.{need-eq, need-not-eq, pick-not-le}
 use Rattle.rules.specs.declared.Head.{Head}
@@ -17,12 +18,12 @@ use Rattle.rules.specs.declared.Coefficients.the-variants.{Balance, Oxides, Dus
 use Rattle.rules.specs.Records.{Day, Bad as NoRecord, IsHead, IsDay, IsEnforcement, IsPlant, IsBatch, IsEnd, dayOf, recordIn}
 use Rattle.rules.specs.Records as rules
 use Rattle.rules.specs.Tables.{coefficientsOf}
-use Rattle.rules.specs.Judge.{refuse, fine, first, key, placeHead, rangeHead, placeDay, rangeMasks, judgePair, judgeHours, judgeDay, surveysLeft, placeEnforcement, placePlant, judgeStopped, judgeSurvey, placeBatch, rangeBatch, judgeEntry, placeEnd, judgeFuel, judge}
+use Rattle.rules.specs.Judge.{refuse, fine, first, placeHead, rangeHead, placeDay, rangeMasks, judgePair, judgeHours, judgeDay, surveysLeft, surveyTests, placeEnforcement, placePlant, judgeStopped, judgeSurvey, placeBatch, rangeBatch, judgeEntry, placeEnd, judgeFuel, judge}
 use Rattle.record.specs.declared.DayMasks.{DayMasks}
 use Rattle.record.specs.declared.Record.{Record}
 use Rattle.record.specs.declared.Record.the-variants.{Bad, OfHead, OfDay, OfEnforcement, OfPlant, OfBatch, OfEnd}
 use Rattle.record.specs.Flat.{masksOf, flat}
-use Rattle.faults.proofs.Laws.{Stands, stands, first-first, first-refused, passed, both-passed}
+use Rattle.faults.proofs.Laws.{Stands, stands, first-first, first-refused, passed, each-passed, both-passed}
 use Rattle.day.proofs.Hours.{pair-stands}
 use Rattle.day.proofs.Laws.{PairAccepted, pair-accepted}
 use Rattle.record.proofs.Laws.{day-in}
@@ -151,82 +152,46 @@ module _ (place : ℕ) (v : View) where
   pub head-ok : (runs : List ℕ) (h : Head) → judgeFlat place v runs (OfHead h) ≡ fine → HeadOk v h
   unfolding judgeFlat placeHead rangeHead
   head-ok runs h e =
-      let both = both-passed (placeHead place v h) (rangeHead place h) (search stands depth 20) e in
-      let a1 = passed 2 place (not (v .inside)) _ refl (both .0) in
-      let a2 = passed 2 place (leb (v .floor) (key h)) _ refl (a1 .1) in
-      let a3 = passed 2 place (ltb (v .lines) 48) _ refl (a2 .1) in
-      let b1 = passed 3 place (leb 1 (h .pollutant)) _ refl (both .1) in
-      let b2 = passed 3 place (leb (h .pollutant) 3) _ refl (b1 .1) in
-      let b3 = passed 3 place (leb (h .required) 1) _ refl (b2 .1) in
-      let b4 = passed 3 place (leb 1 (h .furnace)) _ refl (b3 .1) in
-      let b5 = passed 3 place (leb (h .furnace) 4) _ refl (b4 .1) in
-      let b6 = passed 3 place (leb 1 (h .coal)) _ refl (b5 .1) in
-      let b7 = passed 3 place (leb (h .coal) 7) _ refl (b6 .1) in
-      let b8 = passed 3 place (leb 9 (h .mw)) _ refl (b7 .1) in
-      let b9 = passed 3 place (leb 1 (h .mark)) _ refl (b8 .1) in
-      let b10 = passed 3 place (leb (h .mark) 4) _ refl (b9 .1) in
-      let b11 = passed 3 place (leb 1 (h .days)) _ refl (b10 .1) in
-      let b12 = passed 3 place (leb (h .days) 92) _ refl (b11 .1) in
-      record { outside = turned-true (v .inside) (a1 .0); room = ltb-true _ _ (a3 .0); days-most = leb-true _ _ (b12 .0) }
+      let both = both-passed (placeHead place v h) (rangeHead place h) (search stands) e in
+      let p = each-passed 2 place _ refl (both .0) in
+      let r = each-passed 3 place _ refl (both .1) in
+      record { outside = turned-true (v .inside) (p 0); room = ltb-true _ _ (p 2); days-most = leb-true _ _ (r 11) }
 
   pub day-ok : (runs : List ℕ) (d : DayMasks) → judgeFlat place v runs (OfDay d) ≡ fine → DayOk v d
-  unfolding judgeFlat placeDay rangeMasks
+  unfolding judgeFlat placeDay
   day-ok runs d e =
-      let both = both-passed (placeDay place v (d .number)) (rangeMasks place (d .run) (d .measured)) (search stands depth 20) e in
-      let a1 = passed 2 place (v .inside) _ refl (both .0) in
-      let a2 = passed 2 place (ltb (v .days) (v .head .days)) _ refl (a1 .1) in
-      let a3 = passed 2 place (eqb (d .number) (v .days)) _ refl (a2 .1) in
-      record { inside = a1 .0; room = ltb-true _ _ (a2 .0); turn = eqb-true _ _ (a3 .0) }
+      let both = both-passed (placeDay place v (d .number)) (rangeMasks place (d .run) (d .measured)) (search stands) e in
+      let p = each-passed 2 place _ refl (both .0) in
+      record { inside = p 0; room = ltb-true _ _ (p 1); turn = eqb-true _ _ (p 2) }
 
-  -- the tests that both kinds of survey pass after their own
-  survey-ok : (runs : List ℕ) (s : Survey) → v .inside ≡ true → v .days ≡ v .head .days → surveysLeft v ≡ true → judgeSurvey place v runs s ≡ fine → SurveyOk v s
-  unfolding judgeSurvey surveysLeft
-  survey-ok runs s i d l e =
+  -- a survey of either kind, by where it stands
+  survey-ok : (runs : List ℕ) (floor : ℕ) (s : Survey) → ((i : ℕ) → getD (surveyTests v floor (s .hour)) i true ≡ true) → judgeSurvey place v runs s ≡ fine → SurveyOk v s
+  unfolding judgeSurvey surveyTests surveysLeft
+  survey-ok runs floor s p e =
       let a = passed 3 place (ltb (s .hour) (24 * v .head .days)) _ refl e in
       let both = both-passed (judgePair place (s .pair)) (judgeStopped place runs (s .hour)) (pair-stands place (s .pair)) (a .1) in
-      record { inside = i; days-done = d; room = ltb-true _ _ l; in-period = ltb-true _ _ (a .0); pair = pair-accepted place (s .pair) (both .0) }
+      record { inside = p 0; days-done = eqb-true _ _ (p 1); room = ltb-true _ _ (p 4); in-period = ltb-true _ _ (a .0); pair = pair-accepted place (s .pair) (both .0) }
 
   pub enforcement-ok : (runs : List ℕ) (s : Survey) → judgeFlat place v runs (OfEnforcement s) ≡ fine → (v .plant .count ≡ 0) × SurveyOk v s
   unfolding judgeFlat placeEnforcement
   enforcement-ok runs s e =
-      let both = both-passed (placeEnforcement place v s) (judgeSurvey place v runs s) (search stands depth 20) e in
-      let a1 = passed 2 place (v .inside) _ refl (both .0) in
-      let a2 = passed 2 place (eqb (v .days) (v .head .days)) _ refl (a1 .1) in
-      let a3 = passed 2 place (eqb (v .plant .count) 0) _ refl (a2 .1) in
-      let a4 = passed 2 place (eqb (v .batches) 0) _ refl (a3 .1) in
-      let a5 = passed 2 place (leb (v .enforcement .floor) (s .hour)) _ refl (a4 .1) in
-      let a6 = passed 2 place (surveysLeft v) _ refl (a5 .1) in
-      (eqb-true _ _ (a3 .0), survey-ok runs s (a1 .0) (eqb-true _ _ (a2 .0)) (a6 .0) (both .1))
+      let both = both-passed (placeEnforcement place v s) (judgeSurvey place v runs s) (search stands) e in
+      let p = each-passed 2 place _ refl (both .0) in
+      (eqb-true _ _ (p 0), survey-ok runs (v .enforcement .floor) s (λ i. p (suc i)) (both .1))
 
   pub plant-ok : (runs : List ℕ) (s : Survey) → judgeFlat place v runs (OfPlant s) ≡ fine → SurveyOk v s
   unfolding judgeFlat placePlant
   plant-ok runs s e =
-      let both = both-passed (placePlant place v s) (judgeSurvey place v runs s) (search stands depth 20) e in
-      let a1 = passed 2 place (v .inside) _ refl (both .0) in
-      let a2 = passed 2 place (eqb (v .days) (v .head .days)) _ refl (a1 .1) in
-      let a3 = passed 2 place (eqb (v .batches) 0) _ refl (a2 .1) in
-      let a4 = passed 2 place (leb (v .plant .floor) (s .hour)) _ refl (a3 .1) in
-      let a5 = passed 2 place (surveysLeft v) _ refl (a4 .1) in
-      survey-ok runs s (a1 .0) (eqb-true _ _ (a2 .0)) (a5 .0) (both .1)
+      let both = both-passed (placePlant place v s) (judgeSurvey place v runs s) (search stands) e in
+      survey-ok runs (v .plant .floor) s (each-passed 2 place _ refl (both .0)) (both .1)
 
   pub batch-ok : (runs : List ℕ) (b : Batch) → judgeFlat place v runs (OfBatch b) ≡ fine → BatchOk v b
   unfolding judgeFlat placeBatch rangeBatch
   batch-ok runs b e =
-      let both = both-passed (placeBatch place v) (rangeBatch place v b) (search stands depth 20) e in
-      let a1 = passed 2 place (v .inside) _ refl (both .0) in
-      let a2 = passed 2 place (eqb (v .days) (v .head .days)) _ refl (a1 .1) in
-      let a3 = passed 2 place (ltb (v .batches) 92) _ refl (a2 .1) in
-      let b1 = passed 3 place (leb 1 (b .kg)) _ refl (both .1) in
-      let b2 = passed 3 place (leb (b .sulphur) 2_000) _ refl (b1 .1) in
-      let b3 = passed 3 place (leb (b .ash) 10_000) _ refl (b2 .1) in
-      let b4 = passed 3 place (leb (v .fuel + b .kg) 10_000_000_000) _ refl (b3 .1) in
-      record {
-        inside = a1 .0;
-        room = ltb-true _ _ (a3 .0);
-        sulphur-most = leb-true _ _ (b2 .0);
-        ash-most = leb-true _ _ (b3 .0);
-        fuel-most = leb-true _ _ (b4 .0);
-      }
+      let both = both-passed (placeBatch place v) (rangeBatch place v b) (search stands) e in
+      let p = each-passed 2 place _ refl (both .0) in
+      let r = each-passed 3 place _ refl (both .1) in
+      record { inside = p 0; room = ltb-true _ _ (p 2); sulphur-most = leb-true _ _ (r 1); ash-most = leb-true _ _ (r 2); fuel-most = leb-true _ _ (r 3) }
 
   entry-ok : (entry : Coefficients) → judgeEntry place entry ≡ fine → entry ≡ NoEntry → ⊥
   unfolding judgeEntry refuse fine
@@ -241,10 +206,9 @@ module _ (place : ℕ) (v : View) where
   pub end-ok : (runs : List ℕ) → judgeFlat place v runs OfEnd ≡ fine → EndOk v
   unfolding judgeFlat placeEnd
   end-ok runs e =
-      let both = both-passed (placeEnd place v) (judgeFuel place v) (search stands depth 20) e in
-      let a1 = passed 2 place (v .inside) _ refl (both .0) in
-      let a2 = passed 2 place (eqb (v .days) (v .head .days)) _ refl (a1 .1) in
-      record { inside = a1 .0; days-done = eqb-true _ _ (a2 .0); by-fuel = fuel-ok (both .1) }
+      let both = both-passed (placeEnd place v) (judgeFuel place v) (search stands) e in
+      let p = each-passed 2 place _ refl (both .0) in
+      record { inside = p 0; days-done = eqb-true _ _ (p 1); by-fuel = fuel-ok (both .1) }
 
   -- a bad record is always refused
   pub bad-refused : (runs : List ℕ) → judgeFlat place v runs Bad ≡ fine → ⊥

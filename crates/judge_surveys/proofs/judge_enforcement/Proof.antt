@@ -1,8 +1,9 @@
 -- `judge_surveys::judge_enforcement` meets its contract: its tests are the rule's, taken together. Assumes nothing.
-use mathlib.Core.Path.{_∙_}
-use Rattle.rules.specs.Judge.{placeEnforcement}
+use mathlib.Core.Path.{ap, _∙_}
+use Rattle.law.specs.Words.{need, needAll}
+use Rattle.law.proofs.Tests.{need-both, need-then}
+use Rattle.rules.specs.Judge.{placeEnforcement, surveyTests}
 use Rattle.faults.proofs.Laws.{first-parts}
-use Rattle.judge_surveys.proofs.Places.{enforcement-place}
 use borrow.Author.Needs.{needs}
 use Rattle.judge_surveys.proofs.judge_enforcement.Statement.{statement}
 use Rattle.judge_surveys.proofs.judge_enforcement.Tie as tie
@@ -20,9 +21,9 @@ first-of-requires : tie.Need-first-of-requires
 first-of-requires c κs = search needs
 
 returns : tie.Need-returns
-unfolding placeEnforcement
+unfolding needAll placeEnforcement surveyTests
 returns c =
-    first-parts _ _ _ _ _ (c .first-of .ensures) (c .before .before .refuse-unless .ensures ∙ enforcement-place _ _ _ _ _ _ _ _ _ (c .before .before .before .in-place .ensures)) (c .before .judge-survey .ensures)
+    first-parts _ _ _ _ _ (c .first-of .ensures) (c .before .before .refuse-unless .ensures ∙ need-then _ _ _ _ _ (c .before .before .before .in-place .ensures) ∙ ap (need _ _) (need-both _ _ _ _ ∙ need-both _ _ _ _ ∙ need-both _ _ _ _ ∙ need-both _ _ _ _)) (c .before .judge-survey .ensures)
 
 pub judge-enforcement-spec : {M : Type 1} → statement M
 judge-enforcement-spec =

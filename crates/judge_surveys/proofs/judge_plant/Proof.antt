@@ -1,7 +1,8 @@
 -- `judge_surveys::judge_plant` meets its contract: its tests are the rule's, taken together. Assumes nothing.
 use mathlib.Core.Path.{_∙_}
+use Rattle.law.specs.Words.{needAll}
 use Rattle.law.proofs.Tests.{need-both}
-use Rattle.rules.specs.Judge.{placePlant}
+use Rattle.rules.specs.Judge.{placePlant, surveyTests}
 use Rattle.faults.proofs.Laws.{first-parts, need-by}
 use borrow.Author.Needs.{needs}
 use Rattle.judge_surveys.proofs.judge_plant.Statement.{statement}
@@ -20,7 +21,7 @@ first-of-requires : tie.Need-first-of-requires
 first-of-requires c κs = search needs
 
 returns : tie.Need-returns
-unfolding placePlant
+unfolding needAll placePlant surveyTests
 returns c =
     first-parts _ _ _ _ _ (c .first-of .ensures) (c .before .before .refuse-unless .ensures ∙ need-by _ _ _ _ (c .before .before .before .in-place .ensures) ∙ need-both _ _ _ _ ∙ need-both _ _ _ _ ∙ need-both _ _ _ _ ∙ need-both _ _ _ _) (c .before .judge-survey .ensures)
 

@@ -1,5 +1,6 @@
 -- `judge::ends::judge_end` meets its contract: its tests are the rule's, taken together. Assumes nothing.
 use mathlib.Core.Path.{_∙_}
+use Rattle.law.specs.Words.{needAll}
 use Rattle.law.proofs.Tests.{need-both}
 use Rattle.rules.specs.Judge.{placeEnd}
 use Rattle.faults.proofs.Laws.{first-parts}
@@ -20,7 +21,7 @@ first-of-requires : tie.Need-first-of-requires
 first-of-requires c κs = search needs
 
 returns : tie.Need-returns
-unfolding placeEnd
+unfolding needAll placeEnd
 returns c =
     first-parts _ _ _ _ _ (c .first-of .ensures) (c .before .before .refuse-unless .ensures ∙ need-both _ _ _ _) (c .before .judge-fuel .ensures)
 
