@@ -23,7 +23,7 @@ linesIn (Refused f) = []
 linesIn (Accepted lines) = lines
 
 -- the fourth cell of a row is the line's grams
-fourth : (rows : List ℕ) (i : ℕ) (x : Line) → take 7 (drop (7 * i) rows) ≡ rowOf x → getD rows (7 * i + 3) 0 ≡ grams x
+pub fourth : (rows : List ℕ) (i : ℕ) (x : Line) → take 7 (drop (7 * i) rows) ≡ rowOf x → getD rows (7 * i + 3) 0 ≡ grams x
 unfolding rowOf
 fourth rows i x e = sym (getD-drop (7 * i) rows 3 0) ∙ sym (getD-take 7 (drop (7 * i) rows) 3 0 (omega arith)) ∙ ap (λ (row : List ℕ). getD row 3 0) e
 

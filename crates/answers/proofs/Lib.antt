@@ -3,3 +3,4 @@ pub mod Walks
 pub mod Rows
 pub mod Answers
 pub mod Only
+pub mod Heads

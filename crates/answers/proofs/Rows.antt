@@ -1,42 +1,37 @@
--- The rows of lines, seven cells each. Assumes nothing.
-use mathlib.Core.Path.{_≡_, refl, ap, sym, _∙_, subst}
-use mathlib.Core.Bool.{Bool, true, false}
-use mathlib.Core.List.{List, [], _∷_, _++_, append-assoc, List·Memᴰ·head, List·Memᴰ·tail}
-use Prim.Native.Nat.{ℕ, suc, _+_, _*_, _<_}
+-- The rows of lines, seven cells each, those of the oldest line first. Assumes nothing.
+use mathlib.Core.Path.{_≡_, refl, ap, _∙_}
+use mathlib.Core.List.{List, [], _∷_, _++_}
+use Prim.Native.Nat.{ℕ, _-_, _*_, _<_}
 use native.Mathlib.Omega.{arith}
-use lib.ListN.{length, take, drop, length-append}
-use lib.Seq.{take-at, drop-at}
-use lib.Dec.{ltb}
-use borrow.Author.Tests.{ltb-true, ltb-false}
+use lib.ListN.{length, take, drop, getD}
+use Rattle.law.proofs.Newest.{mem-at, written, written-long, block-behind, block-at}
 use Rattle.rules.specs.Lines.{Line}
 use Rattle.rules.specs.Row.{rowOf, rowsOf}
+use Rattle.rules.specs.Walk.{begun, noHead}
 use Rattle.answers.specs.Answers.{IsRow}
 
+row-long : (x : Line) → length (rowOf x) ≡ 7
+unfolding rowOf
+row-long x = refl
+
+rows-written : (lines : List Line) → rowsOf lines ≡ written rowOf lines
+unfolding rowsOf written
+rows-written [] = refl
+rows-written (x ∷ xs) = ap (λ (cells : List ℕ). cells ++ rowOf x) (rows-written xs)
+
 pub rows-long : (lines : List Line) → length (rowsOf lines) ≡ 7 * length lines
-unfolding rowsOf rowOf
-rows-long [] = refl
-rows-long (x ∷ xs) = length-append (rowsOf xs) (rowOf x) ∙ omega (arith, rows-long xs)
+rows-long lines = ap length (rows-written lines) ∙ written-long rowOf 7 row-long lines
 
 -- the row behind the rows of the lines before
 pub row-behind : (xs : List Line) (x : Line) (rest : List ℕ) → take 7 (drop (7 * length xs) (rowsOf xs ++ rowOf x ++ rest)) ≡ rowOf x
-unfolding rowOf
-row-behind xs x rest =
-    ap (take 7) (ap (drop (7 * length xs)) (append-assoc (rowsOf xs) (rowOf x) rest) ∙ drop-at (rowsOf xs) (rowOf x ++ rest) (7 * length xs) (rows-long xs))
-    ∙ take-at (rowOf x) rest 7 refl
+row-behind xs x rest = ap (λ (cells : List ℕ). take 7 (drop (7 * length xs) (cells ++ rowOf x ++ rest))) (rows-written xs) ∙ block-behind rowOf 7 row-long xs x rest
 
-later : (xs : List Line) (x : Line) (row : List ℕ) → IsRow xs row → IsRow (x ∷ xs) row
-later xs x row r = record { line = r .line; among = List·Memᴰ·tail (r .among); stated = r .stated }
-
--- among the rows of the lines before, or behind them
-row-by : (xs : List Line) (x : Line) (rest : List ℕ) (i : ℕ) (t : Bool) → ltb i (length xs) ≡ t → i < suc (length xs)
-    → (i < length xs → IsRow xs (take 7 (drop (7 * i) (rowsOf xs ++ (rowOf x ++ rest))))) → IsRow (x ∷ xs) (take 7 (drop (7 * i) (rowsOf xs ++ rowOf x ++ rest)))
-row-by xs x rest i true e l r =
-    later xs x _ (subst (λ (cells : List ℕ). IsRow xs (take 7 (drop (7 * i) cells))) (sym (append-assoc (rowsOf xs) (rowOf x) rest)) (r (ltb-true i (length xs) e)))
-row-by xs x rest i false e l r =
-    let n : i ≡ length xs = omega (arith, ltb-false i (length xs) e, l) in
-    record { line = x; among = List·Memᴰ·head refl; stated = ap (λ (k : ℕ). take 7 (drop (7 * k) (rowsOf xs ++ rowOf x ++ rest))) n ∙ row-behind xs x rest }
+-- row i is that of the i-th line in file order
+pub row-of : (d : Line) (lines : List Line) (rest : List ℕ) (i : ℕ) → i < length lines → take 7 (drop (7 * i) (rowsOf lines ++ rest)) ≡ rowOf (getD lines (length lines - 1 - i) d)
+row-of d lines rest i l = ap (λ (cells : List ℕ). take 7 (drop (7 * i) (cells ++ rest))) (rows-written lines) ∙ block-at rowOf 7 row-long d lines rest i l
 
 pub row-at : (lines : List Line) (rest : List ℕ) (i : ℕ) → i < length lines → IsRow lines (take 7 (drop (7 * i) (rowsOf lines ++ rest)))
-unfolding rowsOf
-row-at [] rest i l = absurd (omega arith)
-row-at (x ∷ xs) rest i l = row-by xs x rest i (ltb i (length xs)) refl l (λ h. row-at xs (rowOf x ++ rest) i h)
+row-at lines rest i l =
+    let d = begun noHead in
+    let k : length lines - 1 - i < length lines = omega arith in
+    record { line = getD lines (length lines - 1 - i) d; among = mem-at lines (length lines - 1 - i) d k; stated = row-of d lines rest i l }

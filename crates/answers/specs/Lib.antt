@@ -1,2 +1,3 @@
 -- What an answer says of the file.
 pub mod Answers
+pub mod Heads

@@ -3,22 +3,9 @@ use mathlib.Core.List.{List, [], _∷_, _++_}
 use mathlib.Core.Path.{_≡_, refl}
 use Prim.Native.Nat.{ℕ}
 use lib.ListN.{replicate}
-use lib.Ieee.{ofBits}
-use Rattle.law.specs.Words.{need, needAll, pick, table, sumOf, seek, tally, largest, halvesUp, apart}
-use Rattle.field.specs.Field.{u8, u16, u32, u64}
-use Rattle.reading.specs.Reading.{reading, allowed, exact, rounded, capped, roundedOf, both, figuresOf, numberOf, hourNumber}
-use Rattle.rules.specs.Records.{headOf, pairOf, dayOf, surveyOf, batchOf, bodyOf, recordIn, sizeOf, upTo, recordsFrom, recordsOf}
-use Rattle.rules.specs.Slots.{run, valids, mapSlot, entry, entries}
-use Rattle.rules.specs.Hours.{bit, pairAt, slotOf, slotsOf, runningOf, missingOf, running, lacking, runMasks, measuredMasks, runsAt, lacksAt, firstMissing}
-use Rattle.rules.specs.Lines.{surveyAt, replaced, replacedFrom, hours, hasSurvey, besides, surveyed, surveys, fuel}
-use Rattle.rules.specs.Method.{isAutomatic, isManual, methodOf, method}
-use Rattle.rules.specs.Fill.{zeroes, cs, ls, window, short, long, fill, fillBoth, meanUp, same, filled, unfilled}
-use Rattle.rules.specs.Tables.{at, q, k, class, tableA1, noClass, classOf, isPulverised, isGrate, grateDust, dustEntry, oxidesEntry, balanceOf, oxidesOf, dustOf, coefficientsOf}
-use Rattle.rules.specs.Grams.{valuesOf, slots, hourly, amount, automatic, surveyValues, manual, sulphurOf, fuelTop, fuelBottom, fuelGrams, grams}
-use Rattle.rules.specs.Row.{rowOf, rowsOf, totalOf, held, cells, concentrationCells, flowCells}
-use Rattle.rules.specs.Judge.{refuse, fine, first, key, placeHead, rangeHead, placeDay, straysOf, rangeMasks, accepted, judgePair, judgeBlank, judgeHour, judgeHours, judgeDay, surveysLeft, surveyTests, placeEnforcement, placePlant, judgeStopped, judgeSurvey, placeBatch, rangeBatch, judgeEntry, placeEnd, judgeFuel, judge}
-use Rattle.rules.specs.Walk.{floorOf, surveysOf, viewOf, runsOf, begun, withDay, withEnforcement, withPlant, withBatch, takenBetween, takenInside, taken, ended, faultOf, walk, outcome}
-use Rattle.rules.specs.Account.{refusal, acceptance, rowsFit, workFits, answerFrom, answerOf, rowsFrom, rowsAfter, cellsFrom, workAfter}
+use Rattle.rules.specs.Row.{concentrationCells, flowCells}
+use Rattle.rules.specs.Account.{rowsAfter, workAfter}
+use Rattle.rules.specs.Opened.{rules}
 use Rattle.writing.specs.Numbers.{decimalFrom, decimal, spaced}
 use Rattle.text.specs.Line.{refusedLine, totalsLine}
 use Rattle.printed.specs.Program.{rowLines, totalLine, printedFrom, printed}
@@ -50,5 +37,5 @@ pub record ExampleAgrees : Type 0 where
   pub flows : workAfter flowCells example 7 2_208 2_209 (replicate 2_209 5) ≡ (1000000 ∷ 1000000 ∷ 1000001 ∷ 1000001 ∷ []) ++ replicate 2_204 0 ++ (5 ∷ [])
 
 pub example-agrees : ExampleAgrees
-unfolding example exampleText ofBits need needAll pick table sumOf seek tally largest halvesUp apart u8 u16 u32 u64 reading allowed exact rounded capped roundedOf both figuresOf numberOf hourNumber headOf pairOf dayOf surveyOf batchOf bodyOf recordIn sizeOf upTo recordsFrom recordsOf run valids mapSlot entry entries bit pairAt slotOf slotsOf runningOf missingOf running lacking runMasks measuredMasks runsAt lacksAt firstMissing surveyAt replaced replacedFrom hours hasSurvey besides surveyed surveys fuel isAutomatic isManual methodOf method zeroes cs ls window short long fill fillBoth meanUp same filled unfilled at q k class tableA1 noClass classOf isPulverised isGrate grateDust dustEntry oxidesEntry balanceOf oxidesOf dustOf coefficientsOf valuesOf slots hourly amount automatic surveyValues manual sulphurOf fuelTop fuelBottom fuelGrams grams rowOf rowsOf totalOf held cells concentrationCells flowCells refuse fine first key placeHead rangeHead placeDay straysOf rangeMasks accepted judgePair judgeBlank judgeHour judgeHours judgeDay surveysLeft surveyTests placeEnforcement placePlant judgeStopped judgeSurvey placeBatch rangeBatch judgeEntry placeEnd judgeFuel judge floorOf surveysOf viewOf runsOf begun withDay withEnforcement withPlant withBatch takenBetween takenInside taken ended faultOf walk outcome refusal acceptance rowsFit workFits answerFrom answerOf rowsFrom rowsAfter cellsFrom workAfter decimalFrom decimal spaced rowLines totalLine refusedLine totalsLine printedFrom printed
+unfolding example exampleText rules decimalFrom decimal spaced rowLines totalLine refusedLine totalsLine printedFrom printed
 example-agrees = record { prints = refl; row = refl; concentrations = refl; flows = refl }

@@ -19,46 +19,10 @@ use Rattle.lawful.specs.Lawful.{whole, asTotal}
 use Rattle.lawful.proofs.Whole.{value, total-lawful, whole-of}
 use Rattle.panel.specs.declared.Panel.{Panel}
 use Rattle.panel.specs.declared.Stepped.{Stepped}
+use Rattle.panel.specs.Runs.{product, missingHour, products, missingHours, after, NoneRefused, NoneBad}
 use Rattle.panel.specs.Panel.{lawful, unchanged, counted, afterHour, panelStep, emptyPanel}
 use Rattle.panel.proofs.Laws.{lawful-of, step-room, added-sum}
 use Rattle.panel.proofs.Cases.{Taken, unfit, missed, stopped, over, sum, Promise, unlawful, full, room, meets}
-
--- ---- what is counted
--- "a measured hour adds c x l to the total"
-unfoldable pub product : Figures → ℕ
-product (Both c l) = c * l
-product NoData = 0
-product NotRunning = 0
-product Unfit = 0
-
--- "a missing hour 1 to both counts"
-unfoldable pub missingHour : Figures → ℕ
-missingHour (Both c l) = 0
-missingHour NoData = 1
-missingHour NotRunning = 0
-missingHour Unfit = 0
-
--- the sum of c x l over a list of hours, and how many of them are missing
-abbrev pub products : List Hour → ℕ
-products hs = sumOf (λ (h : Hour). product (figuresOf h)) hs
-
-abbrev pub missingHours : List Hour → ℕ
-missingHours hs = sumOf (λ (h : Hour). missingHour (figuresOf h)) hs
-
--- the panel after each hour of a list
-unfoldable pub after : Panel → List Hour → Panel
-after p [] = p
-after p (h ∷ hs) = after (panelStep p h .next) hs
-
--- no hour of a list is refused
-unfoldable pub NoneRefused : Panel → List Hour → Type 0
-NoneRefused p [] = Unit
-NoneRefused p (h ∷ hs) = (panelStep p h .number ≡ 0) × NoneRefused (panelStep p h .next) hs
-
--- no reading of a list is bad
-unfoldable pub NoneBad : List Hour → Type 0
-NoneBad [] = Unit
-NoneBad (h ∷ hs) = (hourNumber (figuresOf h) ≡ 0) × NoneBad hs
 
 -- three whole numbers within their bounds, and the panel of them
 pub record Fit (total hours missing : ℕ) : Type 0 where

@@ -1,2 +1,3 @@
 -- Document 01, "Row, work tables, panel": the panel.
 pub mod Panel
+pub mod Runs

@@ -1,0 +1,80 @@
+-- The i-th line of an accepted file is opened by its i-th head. Assumes nothing.
+use mathlib.Core.Path.{_≡_, refl, sym, ap, _∙_, subst}
+use mathlib.Core.Bool.{Bool, true, false, not}
+use mathlib.Core.List.{List, [], _∷_, _++_, append-assoc, append-nil}
+use Prim.Native.Nat.{ℕ, _+_, _-_, _*_, _<_}
+use native.Mathlib.Omega.{arith}
+use lib.ListN.{length, take, drop, getD}
+use lib.Seq.{getD-take, getD-drop}
+use lib.Dec.{T, eqb}
+use borrow.Author.Tests.{eqb-true}
+use Rattle.law.specs.Words.{need, needAll}
+use Rattle.law.proofs.Tests.{pick-case}
+use Rattle.law.proofs.Newest.{written, block-at}
+use Rattle.rules.specs.declared.Head.{Head}
+use Rattle.rules.specs.Records.{Record, Bad, IsHead, IsDay, IsEnforcement, IsPlant, IsBatch, IsEnd, Placed, recordsOf}
+use Rattle.rules.specs.Lines.{Line}
+use Rattle.rules.specs.Judge.{refuse, first, placeHead, judge}
+use Rattle.rules.specs.Walk.{Stand, Between, Inside, viewOf, runsOf, begun, withDay, withEnforcement, withPlant, withBatch, taken, takenBetween, takenInside, Outcome, Refused, Accepted, ended, faultOf, walk, outcome}
+use Rattle.answers.specs.Heads.{headsWith, headsIn, headsOf}
+
+-- the head of a line, as a list of one
+unfoldable opener : Line → List Head
+opener x = x .head ∷ []
+
+standing : Stand → List Head
+standing (Between done) = written opener done
+standing (Inside x done) = written opener (x ∷ done)
+
+linesIn : Outcome → List Line
+linesIn (Refused f) = []
+linesIn (Accepted lines) = lines
+
+isAccepted : Outcome → Bool
+isAccepted (Refused f) = false
+isAccepted (Accepted lines) = true
+
+false-true : false ≡ true → ⊥
+false-true e = subst (λ (b : Bool). T (not b)) e tt
+
+-- a record that is not refused, taken in
+head-on : (at : ℕ) (stand : Stand) (r : Record) (more : List Head) → judge at (viewOf stand) (runsOf stand) r .number ≡ 0
+    → standing (taken stand r) ++ more ≡ standing stand ++ headsWith r more
+unfolding standing written opener taken takenBetween takenInside headsWith begun withDay withEnforcement withPlant withBatch viewOf judge placeHead first refuse need needAll
+head-on at (Between done) Bad more z = refl
+head-on at (Between done) (IsHead h) more z = append-assoc (written opener done) (h ∷ []) more
+head-on at (Between done) (IsDay d) more z = refl
+head-on at (Between done) (IsEnforcement s) more z = refl
+head-on at (Between done) (IsPlant s) more z = refl
+head-on at (Between done) (IsBatch b) more z = refl
+head-on at (Between done) IsEnd more z = refl
+head-on at (Inside x done) Bad more z = refl
+head-on at (Inside x done) (IsHead h) more z = absurd (omega arith)
+head-on at (Inside x done) (IsDay d) more z = refl
+head-on at (Inside x done) (IsEnforcement s) more z = refl
+head-on at (Inside x done) (IsPlant s) more z = refl
+head-on at (Inside x done) (IsBatch b) more z = refl
+head-on at (Inside x done) IsEnd more z = refl
+
+walk-heads : (file : List ℕ) (ps : List Placed) (stand : Stand) (lines : List Line) → walk file ps stand ≡ Accepted lines → written opener lines ≡ standing stand ++ headsIn ps
+unfolding walk ended standing headsIn linesIn isAccepted faultOf
+walk-heads file [] (Between done) lines = λ o. ap (λ (x : Outcome). written opener (linesIn x)) (sym o) ∙ sym (append-nil (written opener done))
+walk-heads file [] (Inside x done) lines = λ o. absurd (false-true (ap isAccepted o))
+walk-heads file (p ∷ more) stand lines =
+    pick-case (λ (x : Outcome). x ≡ Accepted lines → written opener lines ≡ standing stand ++ headsWith (p .what) (headsIn more)) (eqb (faultOf stand p .number) 0) (walk file more (taken stand (p .what))) (Refused (faultOf stand p))
+    (λ e o. walk-heads file more (taken stand (p .what)) lines o ∙ head-on (p .place) stand (p .what) (headsIn more) (eqb-true (faultOf stand p .number) 0 e)) (λ e o. absurd (false-true (ap isAccepted o)))
+
+file-heads : (file : List ℕ) (lines : List Line) → outcome file ≡ Accepted lines → written opener lines ≡ headsOf file
+unfolding outcome standing written
+file-heads file lines o = walk-heads file (recordsOf file) (Between []) lines o
+
+pub head-at : (file : List ℕ) (lines : List Line) → outcome file ≡ Accepted lines → (d : Line) (other : Head) (i : ℕ) → i < length lines
+    → getD (headsOf file) i other ≡ getD lines (length lines - 1 - i) d .head
+unfolding opener
+head-at file lines o d other i l =
+    let e = block-at opener 1 (λ x. refl) d lines [] i l in
+    ap (λ (hs : List Head). getD hs i other) (sym (file-heads file lines o) ∙ sym (append-nil (written opener lines)))
+    ∙ ap (λ (j : ℕ). getD (written opener lines ++ []) j other) (let k : i ≡ 1 * i + 0 = omega arith in k)
+    ∙ sym (getD-drop (1 * i) (written opener lines ++ []) 0 other)
+    ∙ sym (getD-take 1 (drop (1 * i) (written opener lines ++ [])) 0 other (omega arith))
+    ∙ ap (λ (hs : List Head). getD hs 0 other) e

@@ -1,0 +1,78 @@
+-- Three of the edits in must-fail/ are not only refused: what they say is false (half_the_allowance, next_line, rows_unwritten). Assumes nothing.
+use mathlib.Core.Path.{_≡_, refl, ap}
+use mathlib.Core.Bool.{false}
+use mathlib.Core.List.{List, [], _∷_, _++_, List·Memᴰ, List·Memᴰ·head}
+use Prim.Native.Nat.{ℕ, _+_, _-_, _*_, _/_, _^_, _≤_, _<_}
+use native.Mathlib.Omega.{arith}
+use lib.ListN.{length, take, drop, getD, replicate}
+use lib.Dec.{leb}
+use borrow.Author.Tests.{leb-false}
+use Rattle.law.specs.Words.{apart}
+use Rattle.rules.specs.{Lines.Line, Method.method, Grams.perGram, Grams.grams, Row.rowOf, Walk.Outcome, Walk.Refused, Walk.Accepted, Walk.begun, Walk.noHead, Walk.outcome, Opened.rules}
+use Rattle.allowance.specs.Exact.{exactOf, twice, twiceMean, twiceBoth, exactFill, exactHourly, exactAutomatic}
+use Rattle.allowance.specs.Allowance.{ofMeasured, ofFilled, ofFill, automaticAllowance}
+use Rattle.figures.specs.Example.{example}
+use Rattle.demands.specs.Demands.{Version, Keeps, Taken, Call, Lent}
+use Rattle.demands.proofs.Falsity.{differ}
+use Rattle.demands.proofs.Files.{second, two, callOf, lent-all, given-all}
+use Rattle.demands.proofs.Demands.{resultOf, kept, demands}
+
+linesIn : Outcome → List Line
+linesIn (Refused f) = []
+linesIn (Accepted lines) = lines
+
+-- the example with every reading on the half that goes up: 20.125, 30.125, 40.875 mg/m3 and 1026796.5, 999999.5, 1000000.5 m3/h
+high : List ℕ
+unfolding example
+high =
+    take 27 example
+    ++ (0 ∷ 0 ∷ 161 ∷ 65 ∷ 200 ∷ 174 ∷ 122 ∷ 73 ∷ [])
+    ++ (0 ∷ 0 ∷ 241 ∷ 65 ∷ 248 ∷ 35 ∷ 116 ∷ 73 ∷ [])
+    ++ replicate 8 0
+    ++ (0 ∷ 128 ∷ 35 ∷ 66 ∷ 8 ∷ 36 ∷ 116 ∷ 73 ∷ [])
+    ++ drop 59 example
+
+highLine : Line
+highLine = getD (linesIn (outcome high)) 0 (begun noHead)
+
+record High : Type 0 where
+  accepted : outcome high ≡ Accepted (highLine ∷ [])
+  by : method highLine ≡ 1
+  over : leb (4 * apart (perGram * grams highLine * 2 ^ 300) (exactAutomatic highLine)) ((perGram + automaticAllowance highLine / 2) * 2 ^ 300) ≡ false
+
+high-is : High
+unfolding high highLine linesIn example rules exactOf twice twiceMean twiceBoth exactFill exactHourly exactAutomatic ofMeasured ofFilled ofFill automaticAllowance
+high-is = record { accepted = refl; by = refl; over = refl }
+
+below-not : (a b : ℕ) → b < a → a ≤ b → ⊥
+below-not a b l h = omega arith
+
+-- half the allowance
+not-half : ((file : List ℕ) (lines : List Line) → outcome file ≡ Accepted lines → (x : Line) → List·Memᴰ x lines → method x ≡ 1
+    → 4 * apart (perGram * grams x * 2 ^ 300) (exactAutomatic x) ≤ (perGram + automaticAllowance x / 2) * 2 ^ 300) → ⊥
+not-half h = below-not _ _ (leb-false _ _ (high-is .over)) (h high (highLine ∷ []) (high-is .accepted) highLine (List·Memᴰ·head refl) (high-is .by))
+
+-- the i-th row as that of the next line: `two` has rows of stacks 1 and 2
+twoLines : List Line
+twoLines = linesIn (outcome two)
+
+record Two : Type 0 where
+  accepted : outcome two ≡ Accepted twoLines
+  some : length twoLines ≡ 2
+  next : rowOf (getD twoLines (length twoLines - 1 - (0 + 1)) (begun noHead)) ≡ 2 ∷ 2 ∷ 1 ∷ 136_500 ∷ 4 ∷ 1 ∷ 3 ∷ []
+
+two-is : Two
+unfolding two twoLines second linesIn example rules
+two-is = record { accepted = refl; some = refl; next = refl }
+
+not-next : ((v : Version) → Keeps v → (c : Call) → Lent c → v c .answer .number ≡ 0 → (lines : List Line) → outcome (c .file) ≡ Accepted lines → (i : ℕ) → i < length lines
+    → take 7 (drop (7 * i) (v c .rows)) ≡ rowOf (getD lines (length lines - 1 - (i + 1)) (begun noHead))) → ⊥
+unfolding resultOf
+not-next h =
+    let e = h resultOf (λ c l. kept c) (callOf two) (lent-all .ofTwo) (given-all .ofTwo .number) twoLines (two-is .accepted) 0 (omega (arith, two-is .some)) in
+    let a : getD (take 7 (drop (7 * 0) (resultOf (callOf two) .rows))) 0 0 ≡ 1 = ap (λ (r : List ℕ). getD (take 7 (drop (7 * 0) r)) 0 0) (given-all .rowsTwo) in
+    differ _ _ _ _ a (ap (λ (r : List ℕ). getD r 0 0) (two-is .next)) (omega arith) (ap (λ (r : List ℕ). getD r 0 0) e)
+
+-- nothing written
+not-unwritten : ((v : Version) → Keeps v → (a : Taken v 1) → v (a .call) .rows ≡ a .call .rows) → ⊥
+not-unwritten h = let w = demands .two resultOf (λ c l. kept c) .writes in w .1 (h resultOf (λ c l. kept c) (w .0))

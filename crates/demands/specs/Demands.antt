@@ -1,0 +1,120 @@
+-- What is proved of this program, on one page: statements only. `demands` of proofs/Demands.antt proves the record at the end.
+use Prim.Native.Nat.{ℕ, _+_, _-_, _*_, _/_, _^_, _≤_, _<_}
+use mathlib.Core.Bool.{Bool, true, false}
+use mathlib.Core.List.{List}
+use mathlib.Core.Logic.{_↔_}
+use mathlib.Core.Path.{_≡_}
+use lib.ListN.{length, take, drop, getD}
+use lib.Ieee.Exact.{HasValue}
+use denote.Ref.{RefT, ptr, now}
+use Rattle.reading.specs.{declared.Hour.Hour, Reading.reading, Reading.allowed, Reading.exact}
+use Rattle.rules.specs.{declared.Head.Head, declared.Answer.Answer, Lines.Line, Grams.grams, Row.rowOf, Walk.Accepted, Walk.outcome, Account.Promise}
+use Rattle.answers.specs.Heads.{headsOf}
+use Rattle.allowance.specs.Allowance.{Near}
+use Rattle.lawful.specs.Lawful.{asTotal}
+use Rattle.panel.specs.{Panel.emptyPanel, Runs.after, Runs.products, Runs.missingHours, Runs.NoneRefused, Runs.NoneBad}
+use Rattle.survey.specs.Governing.{isSurvey, part, here, governing}
+
+-- what an account call is lent: a file, cells for rows, and a work table each for concentration and flow
+abbrev pub Call : Type 0
+Call = record { file : List ℕ; rows : List ℕ; concentrations : List ℕ; flows : List ℕ }
+
+-- what it answers, and what the three slices hold afterwards
+abbrev pub Result : Type 0
+Result = record { answer : Answer; rows : List ℕ; concentrations : List ℕ; flows : List ℕ }
+
+-- a slice that a machine can hold, of numbers of so many bytes
+abbrev pub Slice : ℕ → List ℕ → Type 0
+Slice bytes s = ((i : ℕ) → getD s i 0 < 256 ^ bytes) × (length s * bytes < 2 ^ 63)
+
+-- a call that can be made: u8, u64, u32 and u32, as the signature of `account` has them
+abbrev pub Lent : Call → Type 0
+Lent c = Slice 1 (c .file) × Slice 8 (c .rows) × Slice 4 (c .concentrations) × Slice 4 (c .flows)
+
+-- the promise of the account call, which `account` of crates/quarter is proved to keep: the definition to read is `Promise`
+abbrev pub Kept : Call → Result → Type 0
+Kept c r = Promise (c .file) (c .rows) (c .concentrations) (c .flows) (r .answer) (r .rows) (r .concentrations) (r .flows)
+
+-- some way to answer calls; and that it keeps the promise on every call that can be made
+abbrev pub Version : Type 0
+Version = Call → Result
+
+abbrev pub Keeps : Version → Type 0
+Keeps v = (c : Call) → Lent c → Kept c (v c)
+
+-- a call that can be made, which a version accepts with so many rows; and the grams of the i-th row
+pub record Taken (v : Version) (rows : ℕ) : Type 0 where
+  pub call : Call
+  pub lent : Lent call
+  pub number : v call .answer .number ≡ 0
+  pub count : v call .answer .rows ≡ rows
+
+abbrev pub gramsIn : Result → ℕ → ℕ
+gramsIn r i = getD (r .rows) (7 * i + 3) 0
+
+-- the four versions that have to be shut out: what a version does that is none of them
+pub record NoneOfFour (v : Version) : Type 0 where
+  -- it does not refuse everything
+  pub accepts : Taken v 1
+  -- it does not give the same grams for all files
+  pub grams : (a b : Taken v 1) × (gramsIn (v (a .call)) 0 ≡ gramsIn (v (b .call)) 0 → ⊥)
+  -- it does not write nothing: rows and both work tables change
+  pub writes : (a : Taken v 1) × (v (a .call) .rows ≡ a .call .rows → ⊥) × (v (a .call) .concentrations ≡ a .call .concentrations → ⊥) × (v (a .call) .flows ≡ a .call .flows → ⊥)
+  -- it does not account the first line and copy it for the rest
+  pub lines : (a : Taken v 2) × (gramsIn (v (a .call)) 1 ≡ gramsIn (v (a .call)) 0 → ⊥)
+
+-- row i is the row of the file's i-th line, which its i-th head opens (of `lines` the newest stands first), and the grams are near the exact figure
+pub record RowNear (file : List ℕ) (lines : List Line) (rows : List ℕ) (i : ℕ) : Type 0 where
+  pub line : Line
+  pub place : (other : Line) → getD lines (length lines - 1 - i) other ≡ line
+  pub opened : (other : Head) → getD (headsOf file) i other ≡ line .head
+  pub row : take 7 (drop (7 * i) rows) ≡ rowOf line
+  pub grams : getD rows (7 * i + 3) 0 ≡ grams line
+  pub near : Near line
+
+-- what demand 3 says of a version: for every call that it accepts, a row for each line of the file, and every row near
+abbrev pub EveryRowNear : Version → Type 0
+EveryRowNear v =
+    (c : Call) → Lent c → v c .answer .number ≡ 0
+    → (lines : List Line) × (outcome (c .file) ≡ Accepted lines) × (v c .answer .rows ≡ length lines) × ((i : ℕ) → i < length lines → RowNear (c .file) lines (v c .rows) i)
+
+-- a version that refuses every call
+abbrev pub RefusesAll : Version → Type 0
+RefusesAll v = (c : Call) → Lent c → v c .answer .number ≡ 0 → ⊥
+
+-- a panel over any hours: when none is refused, and then the total, the hours and the missing hours, each exactly
+pub record PanelExact (hs : List Hour) : Type 0 where
+  pub taken : NoneRefused emptyPanel hs ↔ NoneBad hs × (length hs ≤ 2_208) × (products hs ≤ 2 ^ 53)
+  pub state : NoneRefused emptyPanel hs → after emptyPanel hs ≡ record { total = asTotal (products hs); hours = length hs; missing = missingHours hs }
+  pub value : NoneRefused emptyPanel hs → HasValue (after emptyPanel hs .total) false (products hs) 1
+
+-- block i of a slice is its first survey of a kind and an hour; no block is one
+abbrev pub FirstAt : List ℕ → ℕ → ℕ → ℕ → Type 0
+FirstAt s kind hour i = (i < length s / 14) × (isSurvey s kind hour (14 * i) ≡ true) × ((j : ℕ) → j < i → isSurvey s kind hour (14 * j) ≡ false)
+
+abbrev pub NoneAt : List ℕ → ℕ → ℕ → Type 0
+NoneAt s kind hour = (j : ℕ) → j < length s / 14 → isSurvey s kind hour (14 * j) ≡ false
+
+-- which part of memory the governing survey is, and that no second one meets the promise of `governing_survey`
+pub record Governs (e p : RefT (List ℕ)) (hour : ℕ) : Type 0 where
+  pub first : (i : ℕ) → FirstAt (now e) 3 hour i → governing e p hour ≡ part e (14 * i) 14
+  pub second : NoneAt (now e) 3 hour → (i : ℕ) → FirstAt (now p) 4 hour i → governing e p hour ≡ part p (14 * i) 14
+  pub neither : NoneAt (now e) 3 hour → NoneAt (now p) 4 hour → governing e p hour ≡ part p 0 0
+  pub only : (r s : RefT (List ℕ)) → here r ≡ governing e p hour → here s ≡ governing e p hour → (ptr r ≡ ptr s) × (now r ≡ now s)
+
+-- all that is demanded: one theorem
+pub record Demands : Type 0 where
+  -- DEMAND 1: every call, of any lists whatever, has one result that keeps the promise, and no second
+  pub one : (c : Call) → (r : Result) × Kept c r × ((s : Result) → Kept c s → s ≡ r)
+  -- DEMAND 2: who keeps the promise is none of the four
+  pub two : (v : Version) → Keeps v → NoneOfFour v
+  -- DEMAND 3: who keeps the promise states every row within its allowance
+  pub three : (v : Version) → Keeps v → EveryRowNear v
+  -- demand 3 alone lets every version through that refuses everything, and there is one; demand 2 lets none through
+  pub alone : ((v : Version) × RefusesAll v) × ((v : Version) → RefusesAll v → EveryRowNear v × (Keeps v → ⊥))
+  -- every accepted reading is exactly a whole multiple of 2^-149, and none but minus zero is negative
+  pub readings : (bits : ℕ) → allowed (reading bits) ≡ true → (sign : Bool) × HasValue (reading bits) sign (exact (reading bits)) (2 ^ 149) × (sign ≡ true → exact (reading bits) ≡ 0)
+  -- THE PANEL, from the empty one over any list of hours
+  pub panel : (hs : List Hour) → PanelExact hs
+  -- THE GOVERNING SURVEY, of any two slices and any hour
+  pub survey : (e p : RefT (List ℕ)) (hour : ℕ) → Governs e p hour

@@ -1,0 +1,2 @@
+-- The demands, on one page.
+pub mod Demands

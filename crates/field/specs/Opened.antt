@@ -1,0 +1,6 @@
+-- Every definition opened: who computes with fields names this.
+use Rattle.field.specs.Field.{u8, u16, u32, u64}
+
+unfoldable pub fields : Type 0
+unfolding u8 u16 u32 u64
+fields = Unit

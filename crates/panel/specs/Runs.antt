@@ -1,0 +1,47 @@
+-- A panel over a list of hours: what is counted, the panel after them, and whether one is refused.
+use Prim.Native.Nat.{ℕ, _*_}
+use mathlib.Core.List.{List, [], _∷_}
+use mathlib.Core.Path.{_≡_}
+use Rattle.law.specs.Words.{sumOf}
+use Rattle.reading.specs.declared.Hour.{Hour}
+use Rattle.reading.specs.declared.Figures.{Figures}
+use Rattle.reading.specs.declared.Figures.the-variants.{Both, NoData, NotRunning, Unfit}
+use Rattle.reading.specs.Reading.{figuresOf, hourNumber}
+use Rattle.panel.specs.declared.Panel.{Panel}
+use Rattle.panel.specs.Panel.{panelStep}
+
+-- "a measured hour adds c x l to the total"
+unfoldable pub product : Figures → ℕ
+product (Both c l) = c * l
+product NoData = 0
+product NotRunning = 0
+product Unfit = 0
+
+-- "a missing hour 1 to both counts"
+unfoldable pub missingHour : Figures → ℕ
+missingHour (Both c l) = 0
+missingHour NoData = 1
+missingHour NotRunning = 0
+missingHour Unfit = 0
+
+-- the sum of c x l over a list of hours, and how many of them are missing
+abbrev pub products : List Hour → ℕ
+products hs = sumOf (λ (h : Hour). product (figuresOf h)) hs
+
+abbrev pub missingHours : List Hour → ℕ
+missingHours hs = sumOf (λ (h : Hour). missingHour (figuresOf h)) hs
+
+-- the panel after each hour of a list
+unfoldable pub after : Panel → List Hour → Panel
+after p [] = p
+after p (h ∷ hs) = after (panelStep p h .next) hs
+
+-- no hour of a list is refused
+unfoldable pub NoneRefused : Panel → List Hour → Type 0
+NoneRefused p [] = Unit
+NoneRefused p (h ∷ hs) = (panelStep p h .number ≡ 0) × NoneRefused (panelStep p h .next) hs
+
+-- no reading of a list is bad
+unfoldable pub NoneBad : List Hour → Type 0
+NoneBad [] = Unit
+NoneBad (h ∷ hs) = (hourNumber (figuresOf h) ≡ 0) × NoneBad hs
