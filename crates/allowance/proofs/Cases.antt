@@ -7,19 +7,19 @@ use lib.ListN.{length, replicate}
 use lib.Dec.{leb→le}
 use lib.Ieee.{ofBits}
 use Rattle.law.specs.Words.{need, needAll, pick, table, sumOf, seek, tally, largest, halvesUp, apart}
-use Rattle.reading.specs.Reading.{reading, allowed, exact, rounded, capped, roundedOf}
+use Rattle.reading.specs.Reading.{reading, allowed, exact, rounded, capped, roundedOf, both, figuresOf, stated, statedHour}
 use Rattle.rules.specs.declared.Pair.{Pair}
 use Rattle.rules.specs.declared.Survey.{Survey}
 use Rattle.rules.specs.declared.Batch.{Batch}
 use Rattle.rules.specs.Records.{IsHead, IsDay, IsEnforcement, IsBatch, IsEnd, Placed}
 use Rattle.rules.specs.Slots.{run, valids, mapSlot, entry, entries}
-use Rattle.rules.specs.Hours.{bit, pairAt, slotOf, slotsOf, runningOf, missingOf, running, lacking, runMasks, runsAt}
+use Rattle.rules.specs.Hours.{bit, pairAt, measuredOf, slotOf, slotsOf, runningOf, missingOf, running, lacking, runMasks, runsAt}
 use Rattle.rules.specs.Lines.{Line, surveyAt, replaced, replacedFrom, hours, hasSurvey, besides, surveyed, surveys, fuel}
 use Rattle.rules.specs.Method.{isAutomatic, isManual, methodOf, method}
 use Rattle.rules.specs.Fill.{zeroes, cs, ls, window, short, long, fill, fillBoth, meanUp, same, filled}
 use Rattle.rules.specs.Tables.{at, class, tableA1, classOf, isPulverised, oxidesEntry, oxidesOf, coefficientsOf}
 use Rattle.rules.specs.Grams.{valuesOf, slots, hourly, amount, perGram, automatic, surveyValues, manual, fuelTop, fuelBottom, fuelGrams, grams}
-use Rattle.rules.specs.Judge.{refuse, fine, first, key, placeHead, rangeHead, placeDay, straysOf, rangeMasks, accepted, judgePair, judgeBlank, judgeHour, judgeHours, judgeDay, surveysLeft, surveyTests, placeEnforcement, judgeStopped, judgeSurvey, placeBatch, rangeBatch, judgeEntry, placeEnd, judgeFuel, judge}
+use Rattle.rules.specs.Judge.{refuse, fine, first, key, placeHead, rangeHead, placeDay, straysOf, rangeMasks, blamed, judgePair, judgeBlank, judgeHour, judgeHours, judgeDay, surveysLeft, surveyTests, placeEnforcement, judgeStopped, judgeSurvey, placeBatch, rangeBatch, judgeEntry, placeEnd, judgeFuel, judge}
 use Rattle.rules.specs.Walk.{Between, Accepted, floorOf, surveysOf, viewOf, runsOf, begun, withDay, withEnforcement, withBatch, takenBetween, takenInside, taken, ended, faultOf, walk}
 use Rattle.allowance.specs.Exact.{exactOf, twice, twiceMean, twiceBoth, exactFill, exactHourly, exactAutomatic, exactSurvey, exactManual}
 use Rattle.allowance.specs.Allowance.{ofMeasured, ofFilled, ofFill, automaticAllowance, manualAllowance, AutomaticNear, ManualNear, FuelNear}
@@ -141,5 +141,5 @@ records x =
     (IsHead (x .head) ∷ map IsDay (x .days) ++ map IsEnforcement (reverse (x .enforcement)) ++ map IsBatch (x .batches) ++ IsEnd ∷ [])
 
 taken-in : walk [] (records example ++ records high ++ records low ++ records overruled ++ records manually ++ records coal) (Between []) ≡ Accepted (coal ∷ manually ∷ overruled ∷ low ∷ high ∷ example ∷ [])
-unfolding pair survey line example high low overruled manually coal records ofBits need needAll pick table sumOf seek tally halvesUp reading allowed exact rounded capped roundedOf bit pairAt runningOf missingOf running lacking runMasks runsAt fuel isAutomatic isManual methodOf at class tableA1 classOf isPulverised oxidesEntry oxidesOf coefficientsOf refuse fine first key placeHead rangeHead placeDay straysOf rangeMasks accepted judgePair judgeBlank judgeHour judgeHours judgeDay surveysLeft surveyTests placeEnforcement judgeStopped judgeSurvey placeBatch rangeBatch judgeEntry placeEnd judgeFuel judge floorOf surveysOf viewOf runsOf begun withDay withEnforcement withBatch takenBetween takenInside taken ended faultOf walk
+unfolding pair survey line example high low overruled manually coal records ofBits need needAll pick table sumOf seek tally halvesUp reading allowed exact rounded capped roundedOf both figuresOf stated statedHour bit pairAt measuredOf runningOf missingOf running lacking runMasks runsAt fuel isAutomatic isManual methodOf at class tableA1 classOf isPulverised oxidesEntry oxidesOf coefficientsOf refuse fine first key placeHead rangeHead placeDay straysOf rangeMasks blamed judgePair judgeBlank judgeHour judgeHours judgeDay surveysLeft surveyTests placeEnforcement judgeStopped judgeSurvey placeBatch rangeBatch judgeEntry placeEnd judgeFuel judge floorOf surveysOf viewOf runsOf begun withDay withEnforcement withBatch takenBetween takenInside taken ended faultOf walk
 taken-in = refl

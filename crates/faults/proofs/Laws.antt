@@ -9,7 +9,7 @@ use lib.Dec.{eqb}
 use Rattle.law.specs.Words.{need, needAll, pick}
 use Rattle.law.proofs.Tests.{need-false, need-case, pick-case, all-passed}
 use Rattle.rules.specs.declared.Fault.{Fault}
-use Rattle.rules.specs.Judge.{refuse, fine, first}
+use Rattle.rules.specs.Judge.{refuse, fine, first, blamed}
 
 by-first : (f g k : Fault) (t : Bool) → eqb (f .number) 0 ≡ t → first (need f t g) k ≡ need f t (first g k)
 unfolding first need
@@ -64,7 +64,16 @@ stands-pick t f g p q = pick-case (λ (x : Fault). first x fine ≡ x) t f g (λ
 pub stands-first : (f g : Fault) → Stands g → Stands (first f g)
 stands-first f g s = first-first f g fine ∙ ap (first f) s
 
-pub ruleset stands = (stands-fine, stands-need, stands-all, stands-pick, stands-first)
+blamed-by : (number place : ℕ) (t : Bool) → eqb number 0 ≡ t → Stands (need (refuse number place) t fine)
+unfolding need
+blamed-by number place true e = stands-fine
+blamed-by number place false e = sym (first-refused number place fine e)
+
+pub stands-blamed : (number place : ℕ) → Stands (blamed place number)
+unfolding blamed
+stands-blamed number place = blamed-by number place (eqb number 0) refl
+
+pub ruleset stands = (stands-fine, stands-blamed, stands-need, stands-all, stands-pick, stands-first)
 
 refuses : (t : Bool) → t ≡ false → t ≡ true → ⊥
 refuses t p q = let z : _≡_ {A = ℕ} 0 1 = cc in omega arith
@@ -74,6 +83,14 @@ pub passed : (number place : ℕ) (t : Bool) (f : Fault) → eqb number 0 ≡ fa
 unfolding need refuse fine
 passed number place true f e h = (refl, h)
 passed number place false f e h = absurd (refuses (eqb number 0) e (ap (λ (x : Fault). eqb (x .number) 0) h))
+
+pass-by : (number place : ℕ) (t : Bool) → eqb number 0 ≡ t → need (refuse number place) t fine ≡ fine → t ≡ true
+pass-by number place true e h = refl
+pass-by number place false e h = passed number place false fine e h .0
+
+pub none-blamed : (number place : ℕ) → blamed place number ≡ fine → eqb number 0 ≡ true
+unfolding blamed
+none-blamed number place h = pass-by number place (eqb number 0) refl h
 
 pub each-passed : (number place : ℕ) (ts : List Bool) → eqb number 0 ≡ false → needAll (refuse number place) ts fine ≡ fine → (i : ℕ) → getD ts i true ≡ true
 unfolding refuse fine

@@ -12,7 +12,7 @@ use lib.Ieee.Exact.{HasValue}
 use Rattle.reading.specs.declared.Hour.{Hour}
 use Rattle.reading.specs.declared.Figures.{Figures}
 use Rattle.reading.specs.declared.Figures.the-variants.{Both, NoData, NotRunning, Unfit}
-use Rattle.reading.specs.Reading.{figuresOf}
+use Rattle.reading.specs.Reading.{stated, statedHour, figuresOf}
 use Rattle.lawful.specs.Lawful.{whole, lawfulTotal, asTotal}
 use Rattle.lawful.proofs.Whole.{value, value-only, total-fits, total-lawful, whole-le, lawful-value}
 use Rattle.panel.specs.declared.Panel.{Panel}
@@ -43,7 +43,7 @@ pub data Promise (p : Panel) (h : Hour) : Stepped → Type 0 where
 
 -- ---- an answer that keeps it is the rule's
 taken-is : (p : Panel) (f : Figures) (r : Stepped) → Taken p f r → r ≡ afterHour p f
-unfolding afterHour
+unfolding afterHour stated statedHour
 taken-is p f r unfit = refl
 taken-is p f r missed = refl
 taken-is p f r stopped = refl
@@ -67,7 +67,7 @@ le-or m n = go (leb m n) (leb→le m n) (nleb→lt m n)
     go false f g = inr (g tt)
 
 takes : (p : Panel) (f : Figures) → Taken p f (afterHour p f)
-unfolding afterHour
+unfolding afterHour stated statedHour
 takes p Unfit = unfit
 takes p NoData = missed
 takes p NotRunning = stopped

@@ -7,14 +7,14 @@ use mathlib.Core.List.{List, [], _∷_}
 use Prim.Native.Nat.{ℕ, suc, _+_, _*_, _^_, _≤_, _<_}
 use native.Mathlib.Nat.{zero-add, add-zero}
 use native.Mathlib.Omega.{arith}
-use lib.ListN.{length}
+use lib.ListN.{length, getD}
 use lib.Ieee.Bits.{is-true}
 use lib.Ieee.Exact.{HasValue}
 use Rattle.law.specs.Words.{sumOf}
 use Rattle.reading.specs.declared.Hour.{Hour}
 use Rattle.reading.specs.declared.Figures.{Figures}
 use Rattle.reading.specs.declared.Figures.the-variants.{Both, NoData, NotRunning, Unfit}
-use Rattle.reading.specs.Reading.{figuresOf, hourNumber}
+use Rattle.reading.specs.Reading.{stated, statedHour, figuresOf}
 use Rattle.lawful.specs.Lawful.{whole, asTotal}
 use Rattle.lawful.proofs.Whole.{value, total-lawful, whole-of}
 use Rattle.panel.specs.declared.Panel.{Panel}
@@ -38,7 +38,7 @@ not-zero : (n : ℕ) → suc n ≡ 0 → ⊥
 not-zero n e = omega arith
 
 missing-one : (f : Figures) → missingHour f ≤ 1
-unfolding missingHour
+unfolding stated statedHour
 missing-one (Both c l) = omega arith
 missing-one NoData = omega arith
 missing-one NotRunning = omega arith
@@ -55,8 +55,8 @@ module _ (t n m : ℕ) (k : Fit t n m) where
   of-lawful : lawful (panelOf t n m) ≡ true
   of-lawful = is-true (lawful (panelOf t n m)) (lawful-of (panelOf t n m) (total-lawful t (k .total-le)) (k .hours-le) (k .missing-le))
 
-  taken-on : (f : Figures) → hourNumber f ≡ 0 → t + product f ≤ 2 ^ 53 → afterHour (panelOf t n m) f ≡ on t n m f
-  unfolding afterHour counted product missingHour hourNumber
+  taken-on : (f : Figures) → statedHour f .number ≡ 0 → t + product f ≤ 2 ^ 53 → afterHour (panelOf t n m) f ≡ on t n m f
+  unfolding afterHour counted product stated statedHour
   taken-on Unfit b s = absurd (not-zero 3 b)
   taken-on NoData b s = simp add-zero
   taken-on NotRunning b s = simp add-zero
@@ -64,23 +64,23 @@ module _ (t n m : ℕ) (k : Fit t n m) where
       let w = whole-of t (k .total-le) in
       added-sum (panelOf t n m) (c * l) (subst (λ (j : ℕ). j + c * l ≤ 2 ^ 53) (sym w) s) ∙ simp (w, add-zero)
 
-  step-on : (h : Hour) → n < 2_208 → hourNumber (figuresOf h) ≡ 0 → t + product (figuresOf h) ≤ 2 ^ 53 → panelStep (panelOf t n m) h ≡ on t n m (figuresOf h)
+  step-on : (h : Hour) → n < 2_208 → statedHour (figuresOf h) .number ≡ 0 → t + product (figuresOf h) ≤ 2 ^ 53 → panelStep (panelOf t n m) h ≡ on t n m (figuresOf h)
   step-on h g b s = step-room (panelOf t n m) h of-lawful g ∙ taken-on (figuresOf h) b s
 
   -- what an hour that is not refused says
-  taken-says : (f : Figures) (r : Stepped) → Taken (panelOf t n m) f r → r .number ≡ 0 → (hourNumber f ≡ 0) × (t + product f ≤ 2 ^ 53)
-  unfolding unchanged product hourNumber
+  taken-says : (f : Figures) (r : Stepped) → Taken (panelOf t n m) f r → r .number ≡ 0 → (statedHour f .number ≡ 0) × (t + product f ≤ 2 ^ 53)
+  unfolding unchanged product stated statedHour
   taken-says f r unfit e = absurd (not-zero 3 e)
   taken-says f r missed e = (refl, omega (arith, k .total-le))
   taken-says f r stopped e = (refl, omega (arith, k .total-le))
   taken-says f r (over o) e = absurd (not-zero 9 e)
   taken-says f r (sum {c} {l} x o g v) e = (refl, subst (λ (j : ℕ). j + c * l ≤ 2 ^ 53) (whole-of t (k .total-le)) o)
 
-  step-says : (h : Hour) → panelStep (panelOf t n m) h .number ≡ 0 → (n < 2_208) × (hourNumber (figuresOf h) ≡ 0) × (t + product (figuresOf h) ≤ 2 ^ 53)
+  step-says : (h : Hour) → panelStep (panelOf t n m) h .number ≡ 0 → (n < 2_208) × (statedHour (figuresOf h) .number ≡ 0) × (t + product (figuresOf h) ≤ 2 ^ 53)
   unfolding unchanged
   step-says h e = go (panelStep (panelOf t n m) h) (meets (panelOf t n m) h) e
     where
-      go : (r : Stepped) → Promise (panelOf t n m) h r → r .number ≡ 0 → (n < 2_208) × (hourNumber (figuresOf h) ≡ 0) × (t + product (figuresOf h) ≤ 2 ^ 53)
+      go : (r : Stepped) → Promise (panelOf t n m) h r → r .number ≡ 0 → (n < 2_208) × (statedHour (figuresOf h) .number ≡ 0) × (t + product (figuresOf h) ≤ 2 ^ 53)
       go r (unlawful l) z = absurd (not-zero 11 z)
       go r (full l g) z = absurd (not-zero 10 z)
       go r (room l g u) z = let a = taken-says (figuresOf h) r u z in (g, a .0, a .1)

@@ -7,7 +7,7 @@ use Rattle.law.specs.Words.{need}
 use Rattle.reading.specs.declared.Hour.{Hour}
 use Rattle.reading.specs.declared.Figures.{Figures}
 use Rattle.reading.specs.declared.Figures.the-variants.{Both, NoData, NotRunning, Unfit}
-use Rattle.reading.specs.Reading.{figuresOf}
+use Rattle.reading.specs.Reading.{statedHour, figuresOf}
 use Rattle.lawful.specs.Lawful.{whole, lawfulState, asTotal}
 use Rattle.panel.specs.declared.Panel.{Panel}
 use Rattle.panel.specs.declared.Stepped.{Stepped}
@@ -32,9 +32,9 @@ added p product =
 -- "a measured hour adds c x l to the total and 1 to the hours, a missing hour 1 to both counts, a stopped hour 1 to the hours"; 4
 unfoldable pub afterHour : Panel → Figures → Stepped
 afterHour p (Both c l) = added p (c * l)
-afterHour p NoData = counted p (p .total) (p .missing + 1)
+afterHour p NoData = counted p (p .total) (p .missing + statedHour NoData .missing)
 afterHour p NotRunning = counted p (p .total) (p .missing)
-afterHour p Unfit = unchanged 4 p
+afterHour p Unfit = unchanged (statedHour Unfit .number) p
 
 -- "panel: 12, 11, 4, 10"
 unfoldable pub panelStep : Panel → Hour → Stepped

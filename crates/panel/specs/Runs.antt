@@ -2,27 +2,21 @@
 use Prim.Native.Nat.{ℕ, _*_}
 use mathlib.Core.List.{List, [], _∷_}
 use mathlib.Core.Path.{_≡_}
+use lib.ListN.{getD}
 use Rattle.law.specs.Words.{sumOf}
 use Rattle.reading.specs.declared.Hour.{Hour}
 use Rattle.reading.specs.declared.Figures.{Figures}
-use Rattle.reading.specs.declared.Figures.the-variants.{Both, NoData, NotRunning, Unfit}
-use Rattle.reading.specs.Reading.{figuresOf, hourNumber}
+use Rattle.reading.specs.Reading.{statedHour, figuresOf}
 use Rattle.panel.specs.declared.Panel.{Panel}
 use Rattle.panel.specs.Panel.{panelStep}
 
 -- "a measured hour adds c x l to the total"
 unfoldable pub product : Figures → ℕ
-product (Both c l) = c * l
-product NoData = 0
-product NotRunning = 0
-product Unfit = 0
+product f = getD (statedHour f .values) 0 0 * getD (statedHour f .values) 1 0
 
 -- "a missing hour 1 to both counts"
-unfoldable pub missingHour : Figures → ℕ
-missingHour (Both c l) = 0
-missingHour NoData = 1
-missingHour NotRunning = 0
-missingHour Unfit = 0
+abbrev pub missingHour : Figures → ℕ
+missingHour f = statedHour f .missing
 
 -- the sum of c x l over a list of hours, and how many of them are missing
 abbrev pub products : List Hour → ℕ
@@ -44,4 +38,4 @@ NoneRefused p (h ∷ hs) = (panelStep p h .number ≡ 0) × NoneRefused (panelSt
 -- no reading of a list is bad
 unfoldable pub NoneBad : List Hour → Type 0
 NoneBad [] = Unit
-NoneBad (h ∷ hs) = (hourNumber (figuresOf h) ≡ 0) × NoneBad hs
+NoneBad (h ∷ hs) = (statedHour (figuresOf h) .number ≡ 0) × NoneBad hs

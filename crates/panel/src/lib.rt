@@ -2,12 +2,11 @@
 ghost use mathlib.Core.Path.{_≡_};
 ghost use mathlib.Core.Bool.{true};
 ghost use Prim.Native.Nat.{_*_, _<_};
-ghost use Rattle.reading.specs.Reading.{both};
 ghost use Rattle.lawful.specs.Lawful.{lawfulTotal};
-ghost use Rattle.panel.specs.Panel.{unchanged, counted, added, afterHour, panelStep, emptyPanel};
+ghost use Rattle.panel.specs.Panel.{unchanged, counted, added, panelStep, emptyPanel};
 use lawful::lawful_state;
+use reading::Figures;
 use reading::Hour;
-use reading::Rounded;
 use sum::add_product;
 
 // "The panel keeps a running total as an f64, with its hours and missing hours."
@@ -67,20 +66,6 @@ impl Panel {
         self.count()
     }
 
-    // 4, or "a measured hour adds c x l to the total and 1 to the hours".
-    fn measure(self, c: Rounded, l: Rounded) -> Stepped
-        requires { ⌜ (lawfulTotal (self .total) ≡ true) × (self .hours < 2208) ⌝ }
-        ensures { λ r. ⌜ r ≡ afterHour self (both c l) ⌝ }
-    {
-        match c {
-            Rounded::Value(n) => match l {
-                Rounded::Value(k) => self.add(n, k),
-                Rounded::Refused => self.refuse(4),
-            },
-            Rounded::Refused => self.refuse(4),
-        }
-    }
-
     // "Each hour hands the next state back", for every state and every hour: 12, 11, 4, 10.
     pub fn hour(mut self, h: Hour) -> Stepped
         ensures { λ r. ⌜ r ≡ panelStep self h ⌝ }
@@ -91,13 +76,15 @@ impl Panel {
         if self.hours >= 2208 {
             return self.refuse(11);
         }
-        match h {
-            Hour::Measured(c, l) => self.measure(rounding::concentration(c), rounding::flow(l)),
-            Hour::Missing => {
+        let f = rounding::figures_of(h);
+        match f {
+            Figures::Both(c, l) => self.add(c, l),
+            Figures::NoData => {
                 self.missing += 1;
                 self.count()
             }
-            Hour::Stopped => self.count(),
+            Figures::NotRunning => self.count(),
+            Figures::Unfit => self.refuse(4),
         }
     }
 }

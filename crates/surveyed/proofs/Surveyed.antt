@@ -9,17 +9,18 @@ use lib.Dec.{eqb}
 use borrow.Author.Tests.{lt-ltb, le-ltb}
 use Rattle.law.proofs.Tests.{pick-case}
 use Rattle.reading.specs.declared.FlaggedPair.{FlaggedPair}
-use Rattle.reading.specs.Reading.{reading, concentrationOf, flowOf, flaggedPair}
+use Rattle.reading.specs.Reading.{flaggedPair, flaggedHour}
+use Rattle.rules.specs.Hours.{measuredOf}
 use Rattle.rules.specs.declared.Survey.{Survey}
 use Rattle.surveyed.specs.Put.{replacedCell, surveyC, surveyL, beats}
 
-module _ (t : Survey) (r : FlaggedPair) (e : r ≡ flaggedPair (concentrationOf (reading (t .pair .concentration))) (flowOf (reading (t .pair .flow)))) where
+module _ (t : Survey) (r : FlaggedPair) (e : r ≡ flaggedHour (measuredOf (t .pair))) where
   pub concentration-is : r .concentration ≡ surveyC t
-  unfolding flaggedPair
+  unfolding flaggedPair flaggedHour measuredOf
   concentration-is = ap (λ (f : FlaggedPair). f .concentration) e
 
   pub flow-is : r .flow ≡ surveyL t
-  unfolding flaggedPair
+  unfolding flaggedPair flaggedHour measuredOf
   flow-is = ap (λ (f : FlaggedPair). f .flow) e
 
 -- ---- an hour's flag: within the quarter, and past it

@@ -10,7 +10,7 @@ use borrow.Author.Tests.{eqb-true, eqb-false}
 use Rattle.law.specs.Words.{pick, table}
 use Rattle.law.proofs.Tables.{table-length, table-at}
 use Rattle.reading.specs.declared.Rounded.{Rounded}
-use Rattle.reading.specs.Reading.{flow, flaggedOf}
+use Rattle.reading.specs.Reading.{flow, stated, flaggedOf}
 use Rattle.rules.specs.declared.Head.{Head}
 use Rattle.rules.specs.declared.Survey.{Survey}
 use Rattle.rules.specs.declared.Batch.{Batch}
@@ -145,11 +145,11 @@ kept-day x done place bytes v s runs measured flags conc flow out runs' measured
 
 -- ---- surveys: an accepted pair's kept values are its values
 survey-c : (t : Survey) → PairAccepted (t .pair) → surveyC t ≡ valuesOf (t .pair) .c
-unfolding flaggedOf valuesOf
+unfolding flaggedOf stated valuesOf
 survey-c t e = ap (λ (r : Rounded). flaggedOf r .value) (e .concentration-value)
 
 survey-l : (t : Survey) → PairAccepted (t .pair) → surveyL t ≡ valuesOf (t .pair) .l
-unfolding flaggedOf valuesOf
+unfolding flaggedOf stated valuesOf
 survey-l t e = ap (λ (r : Rounded). flaggedOf r .value) (e .flow-value)
 
 most-c : (t : Survey) → PairAccepted (t .pair) → valuesOf (t .pair) .c ≤ 1_000_000

@@ -15,8 +15,8 @@ returns c =
     let first = second .before .before .before .before in
     let f = first .before .before in
     let a = f .before .before .before .before .args in
-    let n = concentration-is (a .t) _ (f .pair-flagged .ensures) in
-    let m = flow-is (a .t) _ (f .pair-flagged .ensures) in
+    let n = concentration-is (a .t) _ (f .flagged-pair .ensures) in
+    let m = flow-is (a .t) _ (f .flagged-pair .ensures) in
     let on = runsAt (now (a .measured)) (a .t .hour) in
     record {
       weighs = ap (λ (k : ℕ). record { count = 1; weight = k }) (c .product .ensures) ∙ ap₂ (λ (i j : ℕ). record { count = 1; weight = i * j }) n m;

@@ -1,12 +1,14 @@
 -- `panel::Panel::hour` meets its contract: each way out is the rule's case at the tests that led there. Assumes nothing.
-use mathlib.Core.Path.{_≡_, sym, ap, ap₂, _∙_, subst}
+use mathlib.Core.Path.{_≡_, sym, ap, _∙_, subst}
 use mathlib.Core.Bool.{true}
 use native.Mathlib.Omega.{arith}
 use borrow.Author.Needs.{needs}
 use borrow.Author.Tests.{not-true, not-false}
 use lib.Dec.{T}
 use lib.Ieee.Bits.{is-true}
-use Rattle.reading.specs.Reading.{both, figuresOf}
+use Rattle.reading.specs.Reading.{stated, statedHour, figuresOf}
+use Rattle.reading.proofs.Laws.{stated-hour-only}
+use Rattle.reading.specs.declared.Figures.{Figures}
 use Rattle.panel.specs.declared.Panel.{Panel}
 use Rattle.reading.specs.declared.Hour.{Hour}
 use Rattle.panel.specs.Panel.{lawful, counted, afterHour, panelStep}
@@ -35,38 +37,35 @@ refuse-requires-2 c κs = search needs
 returns-2 : tie.Need-returns-2
 returns-2 c = c .refuse2 .ensures ∙ sym (step-full _ _ (law (c .before .before .before)) (c .before .if2 .taken))
 
-module _ (c : tie.Else2) where
+module _ (c : tie.After-figures-of) where
   abbrev p : Panel
-  p = c .before .before .before .before .args .self
+  p = c .before .before .before .before .before .args .self
 
   abbrev h : Hour
-  h = c .before .before .before .before .args .h
+  h = c .before .before .before .before .before .args .h
 
   lawfully : T (lawful p)
-  lawfully = subst T (sym (law (c .before .before))) tt
+  lawfully = subst T (sym (law (c .before .before .before))) tt
 
-  case : (g : Hour) → h ≡ g → afterHour p (figuresOf g) ≡ panelStep p h
-  case g e = ap (λ (i : Hour). afterHour p (figuresOf i)) (sym e) ∙ sym (step-room p h (law (c .before .before)) (c .if2 .left))
+  case : (r g : Figures) → statedHour r ≡ statedHour (figuresOf h) → r ≡ g → afterHour p g ≡ panelStep p h
+  case r g s e = ap (afterHour p) (sym e ∙ stated-hour-only r (figuresOf h) s) ∙ sym (step-room p h (law (c .before .before .before)) (c .before .if2 .left))
 
-enum-known-h : tie.Need-enum-known-h
-enum-known-h c = search needs
+figures-of-requires : tie.Need-figures-of-requires
+figures-of-requires c κs = search needs
 
-concentration-requires : tie.Need-concentration-requires
-concentration-requires c κs = search needs
+enum-known-f : tie.Need-enum-known-f
+enum-known-f c = search needs
 
-flow-requires : tie.Need-flow-requires
-flow-requires c κs = search needs
-
-measure-requires : tie.Need-measure-requires
-measure-requires c κs =
-    let e = c .before .before .before .before .before in
-    (is-true _ (lawful-total _ (lawfully e)), e .if2 .left)
+add-requires : tie.Need-add-requires
+add-requires c κs =
+    let e = c .before .before .before in
+    (is-true _ (lawful-total _ (lawfully e)), e .before .if2 .left)
 
 enum-told : tie.Need-enum-told
 enum-told c = search needs
 
 add-self : tie.Need-add-self
-add-self c = let e = c .before .before .before in omega (arith, missing-le _ (lawfully e), e .if2 .left)
+add-self c = let e = c .before .before .before in omega (arith, missing-le _ (lawfully e), e .before .if2 .left)
 
 count-requires : tie.Need-count-requires
 count-requires c κs = search needs
@@ -77,21 +76,35 @@ enum-told-2 c = search needs
 count-requires-2 : tie.Need-count-requires-2
 count-requires-2 c κs = search needs
 
+enum-told-3 : tie.Need-enum-told-3
+enum-told-3 c = search needs
+
+refuse-requires-3 : tie.Need-refuse-requires-3
+refuse-requires-3 c κs = search needs
+
 returns-3 : tie.Need-returns-3
-unfolding figuresOf
+unfolding afterHour
 returns-3 c =
-    let e = c .before .before .before .before .before .before in
-    c .measure .ensures
-    ∙ ap (afterHour (p e)) (ap₂ both (c .before .before .concentration .ensures) (c .before .flow .ensures))
-    ∙ case e _ (c .before .before .before .before .h .given .1)
+    let e = c .before .before .before .before in
+    c .add .ensures ∙ case e _ _ (e .figures-of .ensures) (c .before .before .f .given .1)
 
 returns-4 : tie.Need-returns-4
-unfolding figuresOf afterHour counted
-returns-4 c = c .count .ensures ∙ case (c .before .before .before .before) _ (c .before .before .enum-told .given .1)
+unfolding afterHour counted stated statedHour
+returns-4 c =
+    let e = c .before .before .before .before in
+    c .count .ensures ∙ case e _ _ (e .figures-of .ensures) (c .before .before .enum-told .given .1)
 
 returns-5 : tie.Need-returns-5
-unfolding figuresOf afterHour
-returns-5 c = c .count2 .ensures ∙ case (c .before .before .before) _ (c .before .enum-told2 .given .1)
+unfolding afterHour
+returns-5 c =
+    let e = c .before .before .before in
+    c .count2 .ensures ∙ case e _ _ (e .figures-of .ensures) (c .before .enum-told2 .given .1)
+
+returns-6 : tie.Need-returns-6
+unfolding afterHour stated statedHour
+returns-6 c =
+    let e = c .before .before .before in
+    c .refuse3 .ensures ∙ case e _ _ (e .figures-of .ensures) (c .before .enum-told3 .given .1)
 
 pub hour-spec : {M : Type 1} → statement M
 hour-spec =
@@ -102,15 +115,17 @@ hour-spec =
     returns
     refuse-requires-2
     returns-2
-    enum-known-h
-    concentration-requires
-    flow-requires
-    measure-requires
+    figures-of-requires
+    enum-known-f
+    add-requires
     enum-told
     add-self
     count-requires
     enum-told-2
     count-requires-2
+    enum-told-3
+    refuse-requires-3
     returns-3
     returns-4
-    returns-5)
+    returns-5
+    returns-6)
