@@ -1,28 +1,25 @@
 -- The theorem is not empty: the line of document 01's example, and lines whose errors all push the same way, so that hardly anything of the allowance is
 -- left; the walk accepts them all. Every number is computed from the definitions. Assumes nothing.
-use mathlib.Core.List.{List, [], _∷_, _++_, map, reverse}
+use mathlib.Core.List.{List, [], _∷_, _++_, reverse}
 use mathlib.Core.Path.{_≡_, refl}
-use Prim.Native.Nat.{ℕ, _+_, _*_, _^_}
+use Prim.Native.Nat.{ℕ, zero, suc, _+_, _*_, _/_, _%_, _^_}
 use lib.ListN.{length, replicate}
 use lib.Dec.{leb→le}
-use lib.Ieee.{ofBits}
-use Rattle.law.specs.Words.{need, needAll, pick, table, sumOf, seek, tally, largest, halvesUp, apart}
-use Rattle.reading.specs.Reading.{reading, allowed, exact, rounded, capped, roundedOf, both, figuresOf, stated, statedHour}
+use Rattle.law.specs.Numbers.{perGram}
+use Rattle.law.specs.Words.{apart}
+use Rattle.rules.specs.declared.Head.{Head}
 use Rattle.rules.specs.declared.Pair.{Pair}
 use Rattle.rules.specs.declared.Survey.{Survey}
 use Rattle.rules.specs.declared.Batch.{Batch}
-use Rattle.rules.specs.Records.{IsHead, IsDay, IsEnforcement, IsBatch, IsEnd, Placed}
-use Rattle.rules.specs.Slots.{run, valids, mapSlot, entry, entries}
-use Rattle.rules.specs.Hours.{bit, pairAt, measuredOf, slotOf, slotsOf, runningOf, missingOf, running, lacking, runMasks, runsAt}
-use Rattle.rules.specs.Lines.{Line, surveyAt, replaced, replacedFrom, hours, hasSurvey, besides, surveyed, surveys, fuel}
-use Rattle.rules.specs.Method.{isAutomatic, isManual, methodOf, method}
-use Rattle.rules.specs.Fill.{zeroes, cs, ls, window, short, long, fill, fillBoth, meanUp, same, filled}
-use Rattle.rules.specs.Tables.{at, class, tableA1, classOf, isPulverised, oxidesEntry, oxidesOf, coefficientsOf}
-use Rattle.rules.specs.Grams.{valuesOf, slots, hourly, amount, perGram, automatic, surveyValues, manual, fuelTop, fuelBottom, fuelGrams, grams}
-use Rattle.rules.specs.Judge.{refuse, fine, first, key, placeHead, rangeHead, placeDay, straysOf, rangeMasks, blamed, judgePair, judgeBlank, judgeHour, judgeHours, judgeDay, surveysLeft, surveyTests, placeEnforcement, judgeStopped, judgeSurvey, placeBatch, rangeBatch, judgeEntry, placeEnd, judgeFuel, judge}
-use Rattle.rules.specs.Walk.{Between, Accepted, floorOf, surveysOf, viewOf, runsOf, begun, withDay, withEnforcement, withBatch, takenBetween, takenInside, taken, ended, faultOf, walk}
-use Rattle.allowance.specs.Exact.{exactOf, twice, twiceMean, twiceBoth, exactFill, exactHourly, exactAutomatic, exactSurvey, exactManual}
-use Rattle.allowance.specs.Allowance.{ofMeasured, ofFilled, ofFill, automaticAllowance, manualAllowance, AutomaticNear, ManualNear, FuelNear}
+use Rattle.rules.specs.Records.{Day}
+use Rattle.rules.specs.Lines.{Line, surveyed}
+use Rattle.rules.specs.Method.{method}
+use Rattle.rules.specs.Tables.{coefficientsOf}
+use Rattle.rules.specs.Grams.{fuelTop, fuelBottom, grams}
+use Rattle.rules.specs.Walk.{Accepted, outcome}
+use Rattle.allowance.specs.Exact.{exactAutomatic, exactManual}
+use Rattle.allowance.specs.Allowance.{automaticAllowance, manualAllowance, AutomaticNear, ManualNear, FuelNear}
+use Rattle.allowance.specs.Opened.{allowances}
 
 -- ---- what a case computes: the method, the grams, the exact figure, the allowance, and both sides of the inequality
 record Automatic (x : Line) (G X allowance left right : ℕ) : Type 0 where
@@ -60,7 +57,7 @@ line : ℕ → ℕ → ℕ → ℕ → List Pair → List Survey → List Batch 
 line stack required run measured pairs enforcement batches =
     record {
       head = record { stack = stack; pollutant = 2; required = required; furnace = 1; coal = 4; mw = 300; mark = 1; days = 1 };
-      days = record { number = 0; run = run; measured = measured; pairs = pairs } ∷ [];
+      days = record { masks = record { day = 0; run = run; measured = measured }; pairs = pairs } ∷ [];
       enforcement = enforcement;
       plant = [];
       batches = batches;
@@ -110,7 +107,7 @@ record Computed : Type 0 where
   of-coal : Fuel coal 401 40_050 100 100
 
 computed : Computed
-unfolding pair survey line example high low overruled manually coal ofBits pick table sumOf tally largest halvesUp apart reading exact rounded run valids mapSlot entry entries bit pairAt slotOf slotsOf runningOf missingOf running lacking surveyAt replaced replacedFrom hours surveys isAutomatic isManual methodOf method zeroes cs ls window short long fill fillBoth meanUp same filled valuesOf slots hourly amount automatic grams exactOf twice twiceMean twiceBoth exactFill exactHourly exactAutomatic ofMeasured ofFilled ofFill automaticAllowance hasSurvey besides surveyed surveyValues manual exactSurvey exactManual manualAllowance fuel at class tableA1 classOf isPulverised oxidesEntry oxidesOf coefficientsOf fuelTop fuelBottom fuelGrams
+unfolding pair survey line example high low overruled manually coal allowances
 computed =
     record {
       of-example = record { by = refl; states = refl; figure = refl; allows = refl; off = refl; bound = refl };
@@ -130,16 +127,41 @@ record Holds : Type 0 where
   of-coal : FuelNear coal
 
 holds : Holds
-unfolding AutomaticNear ManualNear FuelNear pair survey line example high low overruled manually coal ofBits pick table sumOf tally largest halvesUp apart reading exact rounded run valids mapSlot entry entries bit pairAt slotOf slotsOf runningOf missingOf running lacking surveyAt replaced replacedFrom hours surveys isAutomatic isManual methodOf method zeroes cs ls window short long fill fillBoth meanUp same filled valuesOf slots hourly amount automatic grams exactOf twice twiceMean twiceBoth exactFill exactHourly exactAutomatic ofMeasured ofFilled ofFill automaticAllowance hasSurvey besides surveyed surveyValues manual exactSurvey exactManual manualAllowance fuel at class tableA1 classOf isPulverised oxidesEntry oxidesOf coefficientsOf fuelTop fuelBottom fuelGrams
+unfolding pair survey line example high low overruled manually coal allowances
 holds =
     record { of-high = leb→le _ _ tt; of-low = leb→le _ _ tt; of-overruled = leb→le _ _ tt; of-manually = leb→le _ _ tt; of-coal = leb→le _ _ tt }
 
--- ---- the walk accepts all six: the records of each, judged and taken in one by one
-records : Line → List Placed
-records x =
-    map (λ r. record { place = 0; what = r })
-    (IsHead (x .head) ∷ map IsDay (x .days) ++ map IsEnforcement (reverse (x .enforcement)) ++ map IsBatch (x .batches) ++ IsEnd ∷ [])
+-- ---- the account accepts all six: their records written out as one file
+-- n bytes, the lowest first
+little : ℕ → ℕ → List ℕ
+little zero x = []
+little (suc n) x = x % 256 ∷ little n (x / 256)
 
-taken-in : walk [] (records example ++ records high ++ records low ++ records overruled ++ records manually ++ records coal) (Between []) ≡ Accepted (coal ∷ manually ∷ overruled ∷ low ∷ high ∷ example ∷ [])
-unfolding pair survey line example high low overruled manually coal records ofBits need needAll pick table sumOf seek tally halvesUp reading allowed exact rounded capped roundedOf both figuresOf stated statedHour bit pairAt measuredOf runningOf missingOf running lacking runMasks runsAt fuel isAutomatic isManual methodOf at class tableA1 classOf isPulverised oxidesEntry oxidesOf coefficientsOf refuse fine first key placeHead rangeHead placeDay straysOf rangeMasks blamed judgePair judgeBlank judgeHour judgeHours judgeDay surveysLeft surveyTests placeEnforcement judgeStopped judgeSurvey placeBatch rangeBatch judgeEntry placeEnd judgeFuel judge floorOf surveysOf viewOf runsOf begun withDay withEnforcement withBatch takenBetween takenInside taken ended faultOf walk
+-- the bytes of each element, one behind the other
+bytesOf : {A : Type 0} → (A → List ℕ) → List A → List ℕ
+bytesOf f [] = []
+bytesOf f (x ∷ xs) = f x ++ bytesOf f xs
+
+headBytes : Head → List ℕ
+headBytes h =
+    little 2 12 ++ little 2 1 ++ little 2 (h .stack) ++ (h .pollutant ∷ h .required ∷ h .furnace ∷ h .coal ∷ []) ++ little 2 (h .mw) ++ (h .mark ∷ h .days ∷ [])
+
+pairBytes : Pair → List ℕ
+pairBytes p = little 4 (p .concentration) ++ little 4 (p .flow)
+
+dayBytes : Day → List ℕ
+dayBytes d = little 2 203 ++ little 2 2 ++ (d .masks .day ∷ []) ++ little 4 (d .masks .run) ++ little 4 (d .masks .measured) ++ bytesOf pairBytes (d .pairs)
+
+enforcementBytes : Survey → List ℕ
+enforcementBytes s = little 2 12 ++ little 2 3 ++ little 2 (s .hour) ++ pairBytes (s .pair)
+
+batchBytes : Batch → List ℕ
+batchBytes b = little 2 14 ++ little 2 5 ++ little 8 (b .kg) ++ little 2 (b .sulphur) ++ little 2 (b .ash)
+
+lineBytes : Line → List ℕ
+lineBytes x =
+    headBytes (x .head) ++ bytesOf dayBytes (x .days) ++ bytesOf enforcementBytes (reverse (x .enforcement)) ++ bytesOf batchBytes (x .batches) ++ little 2 2 ++ little 2 6
+
+taken-in : outcome (bytesOf lineBytes (example ∷ high ∷ low ∷ overruled ∷ manually ∷ coal ∷ [])) ≡ Accepted (coal ∷ manually ∷ overruled ∷ low ∷ high ∷ example ∷ [])
+unfolding pair survey line example high low overruled manually coal allowances little bytesOf headBytes pairBytes dayBytes enforcementBytes batchBytes lineBytes
 taken-in = refl

@@ -7,6 +7,7 @@ use native.Mathlib.Omega.{arith}
 use mathlib.Core.List.{map}
 use lib.ListN.{length}
 use lib.Pow.{pow-add}
+use Rattle.law.specs.Numbers.{perGram}
 use Rattle.law.specs.Words.{halvesUp, apart}
 use Rattle.law.proofs.Halves.{Within, spread, halves-within}
 use Rattle.reading.specs.Reading.{reading}
@@ -20,7 +21,7 @@ use Rattle.rules.specs.Lines.{Line, hours, surveyed}
 use Rattle.rules.specs.Method.{method}
 use Rattle.rules.specs.Fill.{filled}
 use Rattle.rules.specs.Tables.{coefficientsOf}
-use Rattle.rules.specs.Grams.{valuesOf, slots, hourly, perGram, automatic, surveyValues, manual, fuelTop, fuelBottom, fuelGrams, grams}
+use Rattle.rules.specs.Grams.{valuesOf, slots, hourly, automatic, surveyValues, manual, fuelTop, fuelBottom, fuelGrams, grams}
 use Rattle.allowance.specs.Exact.{exactOf, exactFill, exactHourly, exactAutomatic, exactSurvey, exactManual}
 use Rattle.allowance.specs.Allowance.{ofFill, automaticAllowance, manualAllowance, AutomaticNear, ManualNear, FuelNear, Near, EveryLineNear}
 use Rattle.allowance.proofs.Alike.{slots-alike, slots-self}

@@ -5,6 +5,7 @@ use native.Mathlib.Nat.{le-refl, mul-le-mul, mul-pos}
 use native.Mathlib.Omega.{arith}
 use mathlib.Core.List.{List, [], Forall₂, Forall₂·nil}
 use lib.ListN.{length}
+use Rattle.law.specs.Numbers.{perGram}
 use Rattle.law.specs.Words.{sumOf, halvesUp}
 use Rattle.law.proofs.Halves.{halves-mono}
 use Rattle.reading.specs.Reading.{reading, exact}
@@ -14,7 +15,7 @@ use Rattle.rules.specs.Slots.{Slot, entries}
 use Rattle.rules.specs.Hours.{running}
 use Rattle.rules.specs.Lines.{Line, hours, surveyed}
 use Rattle.rules.specs.Fill.{Values, zeroes, meanUp, same, filled}
-use Rattle.rules.specs.Grams.{valuesOf, slots, hourly, amount, perGram, automatic, surveyValues, manual}
+use Rattle.rules.specs.Grams.{valuesOf, slots, hourly, amount, automatic, surveyValues, manual}
 use Rattle.allowance.proofs.Alike.{Alike, entries-alike, slots-alike, length-alike}
 use Rattle.allowance.proofs.Sums.{sum-mono}
 use Rattle.allowance.proofs.Account.{Rule}

@@ -3,6 +3,7 @@ use Prim.Native.Nat.{ℕ, _+_, _*_, _^_, _≤_, _<_}
 use mathlib.Core.List.{List, [], List·Memᴰ}
 use mathlib.Core.Path.{_≡_}
 use lib.ListN.{length, take, drop, getD}
+use Rattle.law.specs.Numbers.{perGram}
 use Rattle.law.specs.Words.{sumOf, apart}
 use Rattle.rules.specs.Slots.{entries}
 use Rattle.rules.specs.Hours.{running}
@@ -10,7 +11,7 @@ use Rattle.rules.specs.Lines.{Line, surveyed}
 use Rattle.rules.specs.Method.{method}
 use Rattle.rules.specs.Fill.{Values, filled}
 use Rattle.rules.specs.Tables.{coefficientsOf}
-use Rattle.rules.specs.Grams.{slots, surveyValues, perGram, fuelTop, fuelBottom, grams}
+use Rattle.rules.specs.Grams.{slots, surveyValues, fuelTop, fuelBottom, grams}
 use Rattle.rules.specs.declared.Answer.{Answer}
 use Rattle.rules.specs.Walk.{Accepted, outcome}
 use Rattle.rules.specs.Account.{Promise}

@@ -1,3 +1,4 @@
 -- Document 01, "The allowance".
 pub mod Exact
 pub mod Allowance
+pub mod Opened

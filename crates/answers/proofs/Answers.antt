@@ -8,6 +8,7 @@ use lib.ListN.{length, drop}
 use lib.Dec.{leb}
 use borrow.Author.Tests.{leb-false}
 use Rattle.law.specs.Words.{need}
+use Rattle.law.specs.Numbers.{rowCells, mostCells}
 use Rattle.rules.specs.declared.Answer.{Answer}
 use Rattle.rules.specs.Lines.{Line}
 use Rattle.rules.specs.Row.{rowsOf}
@@ -19,7 +20,7 @@ use Rattle.answers.proofs.Walks.{refused-some, accepted-48}
 
 module _ (file rows : List ℕ) (a : Answer) (rows' : List ℕ) where
   by-rows : (lines : List Line) (t : Bool) → outcome file ≡ Accepted lines → a ≡ need (refusal (refuse 8 0)) t (acceptance lines)
-      → rows' ≡ need rows t (rowsOf lines ++ drop (7 * length lines) rows) → a .number ≡ 0 → Stated file rows a rows'
+      → rows' ≡ need rows t (rowsOf lines ++ drop (rowCells * length lines) rows) → a .number ≡ 0 → Stated file rows a rows'
   unfolding need refusal refuse
   by-rows lines true o e r z = record { lines = lines; accepted = o; most = accepted-48 file lines o; answers = e; leaves = r }
   by-rows lines false o e r z = absurd (omega (arith, ap (λ (b : Answer). b .number) e, z))
@@ -40,19 +41,19 @@ module _ (file rows : List ℕ) (a : Answer) (rows' : List ℕ) where
   unfolding answerOf rowsAfter
   stated conc flow conc' flow' p z = by-work (workFits (length conc) (length flow)) (p .answers) (p .leaves) z
 
-  denied-rows : (lines : List Line) (t : Bool) → leb (7 * length lines) (length rows) ≡ t → outcome file ≡ Accepted lines → 336 ≤ length rows
+  denied-rows : (lines : List Line) (t : Bool) → leb (rowCells * length lines) (length rows) ≡ t → outcome file ≡ Accepted lines → mostCells ≤ length rows
       → a ≡ need (refusal (refuse 8 0)) t (acceptance lines) → (a .number ≡ 0 → ⊥) → Denied file a
   unfolding need acceptance
   denied-rows lines true f o l e n = absurd (n (ap (λ (b : Answer). b .number) e))
-  denied-rows lines false f o l e n = absurd (omega (arith, leb-false (7 * length lines) (length rows) f, accepted-48 file lines o, l))
+  denied-rows lines false f o l e n = absurd (omega (arith, leb-false (rowCells * length lines) (length rows) f, accepted-48 file lines o, l))
 
-  denied-by : (o : Outcome) → outcome file ≡ o → 336 ≤ length rows → a ≡ answerFrom (length rows) o → (a .number ≡ 0 → ⊥) → Denied file a
+  denied-by : (o : Outcome) → outcome file ≡ o → mostCells ≤ length rows → a ≡ answerFrom (length rows) o → (a .number ≡ 0 → ⊥) → Denied file a
   unfolding answerFrom rowsFit
   denied-by (Refused f) o l e n = record { fault = f; refused = o; answers = e }
-  denied-by (Accepted lines) o l e n = denied-rows lines (leb (7 * length lines) (length rows)) refl o l e n
+  denied-by (Accepted lines) o l e n = denied-rows lines (leb (rowCells * length lines) (length rows)) refl o l e n
 
   -- the number is not 0, and cells for 48 rows and both work tables are lent
-  pub denied : (conc flow conc' flow' : List ℕ) → Promise file rows conc flow a rows' conc' flow' → 336 ≤ length rows → workFits (length conc) (length flow) ≡ true
+  pub denied : (conc flow conc' flow' : List ℕ) → Promise file rows conc flow a rows' conc' flow' → mostCells ≤ length rows → workFits (length conc) (length flow) ≡ true
       → (a .number ≡ 0 → ⊥) → Denied file a
   unfolding answerOf need
   denied conc flow conc' flow' p l w n = denied-by (outcome file) refl l (p .answers ∙ rw w) n

@@ -12,10 +12,13 @@ use Rattle.law.specs.Words.{need, needAll}
 use Rattle.law.proofs.Tests.{pick-case}
 use Rattle.law.proofs.Newest.{written, block-at}
 use Rattle.rules.specs.declared.Head.{Head}
-use Rattle.rules.specs.Records.{Record, Bad, IsHead, IsDay, IsEnforcement, IsPlant, IsBatch, IsEnd, Placed, recordsOf}
+use Rattle.rules.specs.declared.Record.{Record}
+use Rattle.rules.specs.declared.Record.the-variants.{Bad, OfHead, OfDay, OfEnforcement, OfPlant, OfBatch, OfEnd}
+use Rattle.rules.specs.Records.{Placed, recordIn, recordsOf}
 use Rattle.rules.specs.Lines.{Line}
-use Rattle.rules.specs.Judge.{refuse, first, placeHead, judge}
+use Rattle.rules.specs.Judge.{refuse, first, placeHead, judgeRecord}
 use Rattle.rules.specs.Walk.{Stand, Between, Inside, viewOf, runsOf, begun, withDay, withEnforcement, withPlant, withBatch, taken, takenBetween, takenInside, Outcome, Refused, Accepted, ended, faultOf, walk, outcome}
+use Rattle.answers.proofs.Walks.{passed-record}
 use Rattle.answers.specs.Heads.{headsWith, headsIn, headsOf}
 
 -- the head of a line, as a list of one
@@ -38,31 +41,32 @@ false-true : false ≡ true → ⊥
 false-true e = subst (λ (b : Bool). T (not b)) e tt
 
 -- a record that is not refused, taken in
-head-on : (at : ℕ) (stand : Stand) (r : Record) (more : List Head) → judge at (viewOf stand) (runsOf stand) r .number ≡ 0
-    → standing (taken stand r) ++ more ≡ standing stand ++ headsWith r more
-unfolding standing written opener taken takenBetween takenInside headsWith begun withDay withEnforcement withPlant withBatch viewOf judge placeHead first refuse need needAll
-head-on at (Between done) Bad more z = refl
-head-on at (Between done) (IsHead h) more z = append-assoc (written opener done) (h ∷ []) more
-head-on at (Between done) (IsDay d) more z = refl
-head-on at (Between done) (IsEnforcement s) more z = refl
-head-on at (Between done) (IsPlant s) more z = refl
-head-on at (Between done) (IsBatch b) more z = refl
-head-on at (Between done) IsEnd more z = refl
-head-on at (Inside x done) Bad more z = refl
-head-on at (Inside x done) (IsHead h) more z = absurd (omega arith)
-head-on at (Inside x done) (IsDay d) more z = refl
-head-on at (Inside x done) (IsEnforcement s) more z = refl
-head-on at (Inside x done) (IsPlant s) more z = refl
-head-on at (Inside x done) (IsBatch b) more z = refl
-head-on at (Inside x done) IsEnd more z = refl
+head-on : (stand : Stand) (bytes : List ℕ) (r : Record) (more : List Head) → judgeRecord (viewOf stand) (runsOf stand) r .number ≡ 0
+    → standing (taken stand bytes r) ++ more ≡ standing stand ++ headsWith r more
+unfolding standing written opener taken takenBetween takenInside headsWith begun withDay withEnforcement withPlant withBatch viewOf judgeRecord placeHead first refuse need needAll
+head-on (Between done) bytes Bad more z = refl
+head-on (Between done) bytes (OfHead h) more z = append-assoc (written opener done) (h ∷ []) more
+head-on (Between done) bytes (OfDay m) more z = refl
+head-on (Between done) bytes (OfEnforcement s) more z = refl
+head-on (Between done) bytes (OfPlant s) more z = refl
+head-on (Between done) bytes (OfBatch b) more z = refl
+head-on (Between done) bytes OfEnd more z = refl
+head-on (Inside x done) bytes Bad more z = refl
+head-on (Inside x done) bytes (OfHead h) more z = absurd (omega arith)
+head-on (Inside x done) bytes (OfDay m) more z = refl
+head-on (Inside x done) bytes (OfEnforcement s) more z = refl
+head-on (Inside x done) bytes (OfPlant s) more z = refl
+head-on (Inside x done) bytes (OfBatch b) more z = refl
+head-on (Inside x done) bytes OfEnd more z = refl
 
 walk-heads : (file : List ℕ) (ps : List Placed) (stand : Stand) (lines : List Line) → walk file ps stand ≡ Accepted lines → written opener lines ≡ standing stand ++ headsIn ps
-unfolding walk ended standing headsIn linesIn isAccepted faultOf
+unfolding walk ended standing headsIn linesIn isAccepted
 walk-heads file [] (Between done) lines = λ o. ap (λ (x : Outcome). written opener (linesIn x)) (sym o) ∙ sym (append-nil (written opener done))
 walk-heads file [] (Inside x done) lines = λ o. absurd (false-true (ap isAccepted o))
 walk-heads file (p ∷ more) stand lines =
-    pick-case (λ (x : Outcome). x ≡ Accepted lines → written opener lines ≡ standing stand ++ headsWith (p .what) (headsIn more)) (eqb (faultOf stand p .number) 0) (walk file more (taken stand (p .what))) (Refused (faultOf stand p))
-    (λ e o. walk-heads file more (taken stand (p .what)) lines o ∙ head-on (p .place) stand (p .what) (headsIn more) (eqb-true (faultOf stand p .number) 0 e)) (λ e o. absurd (false-true (ap isAccepted o)))
+    let r = recordIn (p .bytes) in
+    pick-case (λ (x : Outcome). x ≡ Accepted lines → written opener lines ≡ standing stand ++ headsWith r (headsIn more)) (eqb (faultOf stand p .number) 0) (walk file more (taken stand (p .bytes) r)) (Refused (faultOf stand p))
+    (λ e o. walk-heads file more (taken stand (p .bytes) r) lines o ∙ head-on stand (p .bytes) r (headsIn more) (passed-record stand p (eqb-true (faultOf stand p .number) 0 e))) (λ e o. absurd (false-true (ap isAccepted o)))
 
 file-heads : (file : List ℕ) (lines : List Line) → outcome file ≡ Accepted lines → written opener lines ≡ headsOf file
 unfolding outcome standing written

@@ -3,6 +3,7 @@ use Prim.Native.Nat.{ℕ, _*_, _≤_}
 use mathlib.Core.List.{List, _++_, List·Memᴰ}
 use mathlib.Core.Path.{_≡_}
 use lib.ListN.{length, drop}
+use Rattle.law.specs.Numbers.{mostLines, rowCells}
 use Rattle.rules.specs.declared.Answer.{Answer}
 use Rattle.rules.specs.declared.Fault.{Fault}
 use Rattle.rules.specs.Lines.{Line}
@@ -14,9 +15,9 @@ use Rattle.rules.specs.Account.{refusal, acceptance}
 pub record Stated (file rows : List ℕ) (answer : Answer) (rows' : List ℕ) : Type 0 where
   pub lines : List Line
   pub accepted : outcome file ≡ Accepted lines
-  pub most : length lines ≤ 48
+  pub most : length lines ≤ mostLines
   pub answers : answer ≡ acceptance lines
-  pub leaves : rows' ≡ rowsOf lines ++ drop (7 * length lines) rows
+  pub leaves : rows' ≡ rowsOf lines ++ drop (rowCells * length lines) rows
 
 -- the number is not 0, and enough cells were lent: a record of the file, or its end, is refused
 pub record Denied (file : List ℕ) (answer : Answer) : Type 0 where

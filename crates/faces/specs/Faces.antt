@@ -2,10 +2,11 @@
 use Prim.Native.Nat.{ℕ}
 use mathlib.Core.List.{List, [], _∷_}
 use mathlib.Core.Path.{_≡_}
-use lib.ListN.{length}
+use lib.ListN.{length, getD}
 use lib.Dec.{leb, eqb}
 use lib.Ieee.{Float}
-use Rattle.law.specs.Words.{need, pick}
+use Rattle.law.specs.Numbers.{totalCells}
+use Rattle.law.specs.Words.{need, pick, table}
 use Rattle.reading.specs.declared.Hour.{Hour}
 use Rattle.reading.specs.declared.Hour.the-variants.{Measured, Missing, Stopped}
 use Rattle.rules.specs.declared.Answer.{Answer}
@@ -15,7 +16,7 @@ use Rattle.panel.specs.Panel.{unchanged, panelStep}
 
 -- the six cells of an answer: "number and place (both 0 on acceptance), row count and three totals"
 unfoldable pub answerCells : Answer → List ℕ
-answerCells a = a .number ∷ a .place ∷ a .rows ∷ a .total1 ∷ a .total2 ∷ a .total3 ∷ []
+answerCells a = a .number ∷ a .place ∷ a .rows ∷ table (λ i. getD (a .totals) i 0) totalCells
 
 -- "an hour of a stack is one of three things", by its kind: 0 stopped, 1 missing, 2 measured
 unfoldable pub hourOf : ℕ → Float → Float → Hour

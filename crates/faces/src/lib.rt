@@ -11,13 +11,14 @@ use rules::Answer;
 pub fn answer_cells(a: Answer) -> [u64; 6]
     ensures { λ r. ⌜ r ≡ answerCells a ⌝ }
 {
+    let totals = a.totals;
     [
         a.number as u64,
         a.place as u64,
         a.rows as u64,
-        a.total1,
-        a.total2,
-        a.total3,
+        totals[0],
+        totals[1],
+        totals[2],
     ]
 }
 

@@ -46,7 +46,7 @@ module _ {A : Type 0} (g : Day → ℕ → A) (n : ℕ) where
 
 -- a day past the last: its masks are 0
 unfoldable pub noDay : Day
-noDay = record { number = 0; run = 0; measured = 0; pairs = [] }
+noDay = record { masks = record { day = 0; run = 0; measured = 0 }; pairs = [] }
 
 -- the day of an hour of the period
 unfoldable pub dayAt : List Day → ℕ → Day
@@ -57,25 +57,25 @@ unfolding slotsOf rows
 slots-rows [] = refl
 slots-rows (d ∷ ds) = ap (λ (t : List (Slot Pair)). t ++ table (slotOf d) 24) (slots-rows ds)
 
-runs-rows : (ds : List Day) → runMasks ds ≡ rows (λ d h. d .run) 1 ds
+runs-rows : (ds : List Day) → runMasks ds ≡ rows (λ d h. d .masks .run) 1 ds
 unfolding runMasks rows table
 runs-rows [] = refl
-runs-rows (d ∷ ds) = ap (λ (t : List ℕ). t ++ (d .run ∷ [])) (runs-rows ds)
+runs-rows (d ∷ ds) = ap (λ (t : List ℕ). t ++ (d .masks .run ∷ [])) (runs-rows ds)
 
-measured-rows : (ds : List Day) → measuredMasks ds ≡ rows (λ d h. d .measured) 1 ds
+measured-rows : (ds : List Day) → measuredMasks ds ≡ rows (λ d h. d .masks .measured) 1 ds
 unfolding measuredMasks rows table
 measured-rows [] = refl
-measured-rows (d ∷ ds) = ap (λ (t : List ℕ). t ++ (d .measured ∷ [])) (measured-rows ds)
+measured-rows (d ∷ ds) = ap (λ (t : List ℕ). t ++ (d .masks .measured ∷ [])) (measured-rows ds)
 
 -- how long they are
 pub length-slots : (ds : List Day) → length (slotsOf ds) ≡ 24 * length ds
 length-slots ds = ap length (slots-rows ds) ∙ length-rows slotOf 24 ds
 
 pub length-runs : (ds : List Day) → length (runMasks ds) ≡ length ds
-length-runs ds = ap length (runs-rows ds) ∙ length-rows (λ d h. d .run) 1 ds ∙ omega arith
+length-runs ds = ap length (runs-rows ds) ∙ length-rows (λ d h. d .masks .run) 1 ds ∙ omega arith
 
 pub length-measured : (ds : List Day) → length (measuredMasks ds) ≡ length ds
-length-measured ds = ap length (measured-rows ds) ∙ length-rows (λ d h. d .measured) 1 ds ∙ omega arith
+length-measured ds = ap length (measured-rows ds) ∙ length-rows (λ d h. d .masks .measured) 1 ds ∙ omega arith
 
 -- what stands in them at hour h of the period, and past its end
 module _ (ds : List Day) (h : ℕ) where
@@ -94,11 +94,11 @@ module _ (ds : List Day) (h : ℕ) where
         let k : h / 24 < length ds = omega arith in
         ap (λ (x : ℕ). getD (rows (λ d k. f d) 1 ds) x 0) e ∙ row-at (λ d k. f d) 1 ds (h / 24) 0 noDay 0 k (zero-lt-suc 0)
 
-    pub run-day : getD (runMasks ds) (h / 24) 0 ≡ dayAt ds h .run
-    run-day = ap (λ (t : List ℕ). getD t (h / 24) 0) (runs-rows ds) ∙ mask-day (λ d. d .run)
+    pub run-day : getD (runMasks ds) (h / 24) 0 ≡ dayAt ds h .masks .run
+    run-day = ap (λ (t : List ℕ). getD t (h / 24) 0) (runs-rows ds) ∙ mask-day (λ d. d .masks .run)
 
-    pub measured-day : getD (measuredMasks ds) (h / 24) 0 ≡ dayAt ds h .measured
-    measured-day = ap (λ (t : List ℕ). getD t (h / 24) 0) (measured-rows ds) ∙ mask-day (λ d. d .measured)
+    pub measured-day : getD (measuredMasks ds) (h / 24) 0 ≡ dayAt ds h .masks .measured
+    measured-day = ap (λ (t : List ℕ). getD t (h / 24) 0) (measured-rows ds) ∙ mask-day (λ d. d .masks .measured)
 
   module _ (l : 24 * length ds ≤ h) where
     pub slot-past : getD (slotsOf ds) h stopped ≡ stopped

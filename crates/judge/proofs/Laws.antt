@@ -1,143 +1,133 @@
--- Laws of judging: what refuses a record as the code holds it refuses the record, and what a record that is not refused has. Assumes nothing.
+-- Laws of judging: whether a record is refused, and where; and what a record that is not refused has. Assumes nothing.
 use Prim.Native.Nat.{ℕ, suc, _+_, _*_, _<_, _≤_}
 use mathlib.Core.Bool.{Bool, true, false, not}
 use mathlib.Core.List.{List}
-use mathlib.Core.Path.{_≡_, refl, sym, ap, subst, _∙_}
+use mathlib.Core.Path.{_≡_, refl, sym, ap, _∙_}
 use native.Mathlib.Omega.{arith}
 use lib.ListN.{getD}
 use lib.Dec.{ltb}
 use borrow.Author.Tests.{leb-true, ltb-true, eqb-true}
-use Rattle.law.proofs.Tests.{need-eq, need-not-eq, pick-not-le}
+use Rattle.law.specs.Numbers.{hoursOfDay, mostDays, mostLines, mostSurveys, mostBatches, mostSulphur, mostAsh, mostFuel}
+use Rattle.law.proofs.Tests.{pick-not-le}
 use Rattle.rules.specs.declared.Head.{Head}
+use Rattle.rules.specs.declared.Masks.{Masks}
 use Rattle.rules.specs.declared.Survey.{Survey}
 use Rattle.rules.specs.declared.Batch.{Batch}
+use Rattle.rules.specs.declared.Record.{Record}
+use Rattle.rules.specs.declared.Record.the-variants.{Bad, OfHead, OfDay, OfEnforcement, OfPlant, OfBatch, OfEnd}
 use Rattle.rules.specs.declared.Fault.{Fault}
 use Rattle.rules.specs.declared.View.{View}
 use Rattle.rules.specs.declared.Coefficients.{Coefficients}
 use Rattle.rules.specs.declared.Coefficients.the-variants.{Balance, Oxides, Dust, NoEntry}
-use Rattle.rules.specs.Records.{Day, Bad as NoRecord, IsHead, IsDay, IsEnforcement, IsPlant, IsBatch, IsEnd, dayOf, recordIn}
-use Rattle.rules.specs.Records as rules
+use Rattle.rules.specs.Records.{Day, dayOf, recordIn}
 use Rattle.rules.specs.Tables.{coefficientsOf}
-use Rattle.rules.specs.Judge.{refuse, fine, first, placeHead, rangeHead, placeDay, rangeMasks, judgePair, judgeHours, judgeDay, surveysLeft, surveyTests, placeEnforcement, placePlant, judgeStopped, judgeSurvey, placeBatch, rangeBatch, judgeEntry, placeEnd, judgeFuel, judge}
-use Rattle.record.specs.declared.DayMasks.{DayMasks}
-use Rattle.record.specs.declared.Record.{Record}
-use Rattle.record.specs.declared.Record.the-variants.{Bad, OfHead, OfDay, OfEnforcement, OfPlant, OfBatch, OfEnd}
-use Rattle.record.specs.Flat.{masksOf, flat}
-use Rattle.faults.proofs.Laws.{Stands, stands, first-first, first-refused, passed, each-passed, both-passed}
-use Rattle.day.proofs.Hours.{pair-stands}
+use Rattle.rules.specs.Judge.{refuse, fine, first, placeHead, rangeHead, placeDay, rangeMasks, judgePair, judgeBlank, judgeHour, judgeHours, surveysLeft, surveyTests, placeEnforcement, placePlant, judgeStopped, judgeSurvey, placeBatch, rangeBatch, judgeEntry, placeEnd, lineMethod, judgeFuel, judgeRecord, judgeReadings, judge}
+use Rattle.rules.proofs.Faults.{Stands, stands, stands-fine, stands-seek, Within, withins, within-fine, within-first, within-seek, first-goes, first-stops, first-refused, passed, each-passed, both-passed}
+use Rattle.day.proofs.Hours.{pair-stands, hour-stands}
 use Rattle.day.proofs.Laws.{PairAccepted, pair-accepted}
-use Rattle.record.proofs.Laws.{day-in}
-use Rattle.method.specs.Open.{lineMethod}
-use Rattle.judge.specs.Flat.{judgeFlat}
 
--- ---- a record as the code holds it
--- no day
-unfoldable pub NoDay : Record → Type 0
-NoDay Bad = Unit
-NoDay (OfHead h) = Unit
-NoDay (OfDay d) = ⊥
-NoDay (OfEnforcement s) = Unit
-NoDay (OfPlant s) = Unit
-NoDay (OfBatch b) = Unit
-NoDay OfEnd = Unit
-
-first-stops : (f g : Fault) → (f .number ≡ 0 → ⊥) → f ≡ first f g
-unfolding first
-first-stops f g n = need-not-eq f g (f .number) 0 n
-
-first-goes : (f g : Fault) → f .number ≡ 0 → g ≡ first f g
-unfolding first
-first-goes f g z = need-eq f g g (f .number) 0 z refl
-
-entry-stands : (place : ℕ) (entry : Coefficients) → Stands (judgeEntry place entry)
+-- ---- a fault that refuses, or is fine
+entry-stands : (entry : Coefficients) → Stands (judgeEntry entry)
 unfolding judgeEntry
-entry-stands place (Balance q k) = search stands
-entry-stands place (Oxides c) = search stands
-entry-stands place (Dust a b) = search stands
-entry-stands place NoEntry = sym (first-refused 7 place fine refl)
+entry-stands (Balance q k) = search stands
+entry-stands (Oxides c) = search stands
+entry-stands (Dust a b) = search stands
+entry-stands NoEntry = sym (first-refused 7 0 fine refl)
 
-module _ (place : ℕ) (v : View) (runs : List ℕ) where
-  -- what judging a record as the code holds it says refuses, or is fine
-  pub flat-stands : (r : Record) → Stands (judgeFlat place v runs r)
-  unfolding judgeFlat rangeHead placeDay rangeMasks judgeSurvey judgeStopped rangeBatch judgeFuel
-  flat-stands Bad = sym (first-refused 1 place fine refl)
-  flat-stands (OfHead h) = search stands depth 20
-  flat-stands (OfDay d) = search stands depth 20
-  flat-stands (OfEnforcement s) = search stands depth 20
-  flat-stands (OfPlant s) = search stands depth 20
-  flat-stands (OfBatch b) = search stands depth 20
-  flat-stands OfEnd = search (stands, entry-stands) depth 20
+pub record-stands : (v : View) (runs : List ℕ) (r : Record) → Stands (judgeRecord v runs r)
+unfolding judgeRecord rangeHead placeDay rangeMasks judgeSurvey judgeStopped rangeBatch judgeFuel
+record-stands v runs Bad = sym (first-refused 1 0 fine refl)
+record-stands v runs (OfHead h) = search stands depth 20
+record-stands v runs (OfDay d) = search stands depth 20
+record-stands v runs (OfEnforcement s) = search stands depth 20
+record-stands v runs (OfPlant s) = search stands depth 20
+record-stands v runs (OfBatch b) = search stands depth 20
+record-stands v runs OfEnd = search (stands, entry-stands) depth 20
 
-  -- ---- a record that is no day, and a day
-  pub judge-flat : (r : rules.Record) → NoDay (flat r) → judge place v runs r ≡ judgeFlat place v runs (flat r)
-  unfolding judge judgeFlat flat NoDay
-  judge-flat NoRecord n = refl
-  judge-flat (IsHead h) n = refl
-  judge-flat (IsDay d) n = absurd n
-  judge-flat (IsEnforcement s) n = refl
-  judge-flat (IsPlant s) n = refl
-  judge-flat (IsBatch b) n = refl
-  judge-flat IsEnd n = refl
+hours-stand : (d : Day) → Stands (judgeHours d)
+unfolding judgeHours
+hours-stand d = stands-seek _ (judgeHour d) (hour-stands d) 0 hoursOfDay
 
-  pub judge-day : (d : Day) → judge place v runs (IsDay d) ≡ first (judgeFlat place v runs (OfDay (masksOf d))) (judgeHours place d)
-  unfolding judge judgeFlat judgeDay masksOf
-  judge-day d = sym (first-first (placeDay place v (d .number)) (rangeMasks place (d .run) (d .measured)) (judgeHours place d))
+pub readings-stand : (bytes : List ℕ) (r : Record) → Stands (judgeReadings bytes r)
+unfolding judgeReadings
+readings-stand bytes Bad = stands-fine
+readings-stand bytes (OfHead h) = stands-fine
+readings-stand bytes (OfDay d) = hours-stand (dayOf bytes)
+readings-stand bytes (OfEnforcement s) = stands-fine
+readings-stand bytes (OfPlant s) = stands-fine
+readings-stand bytes (OfBatch b) = stands-fine
+readings-stand bytes OfEnd = stands-fine
 
-  -- what refuses the record as the code holds it refuses the record
-  refused-flat : (x : rules.Record) (f : Fault) → f ≡ judgeFlat place v runs (flat x) → (f .number ≡ 0 → ⊥) → f ≡ judge place v runs x
-  unfolding flat NoDay
-  refused-flat NoRecord f e n = e ∙ sym (judge-flat NoRecord tt)
-  refused-flat (IsHead h) f e n = e ∙ sym (judge-flat (IsHead h) tt)
-  refused-flat (IsDay d) f e n = first-stops f _ n ∙ ap (λ (x : Fault). first x (judgeHours place d)) e ∙ sym (judge-day d)
-  refused-flat (IsEnforcement s) f e n = e ∙ sym (judge-flat (IsEnforcement s) tt)
-  refused-flat (IsPlant s) f e n = e ∙ sym (judge-flat (IsPlant s) tt)
-  refused-flat (IsBatch b) f e n = e ∙ sym (judge-flat (IsBatch b) tt)
-  refused-flat IsEnd f e n = e ∙ sym (judge-flat IsEnd tt)
+-- ---- where a record is refused: within its bytes, however few
+entry-within : (n : ℕ) (entry : Coefficients) → Within n (judgeEntry entry)
+unfolding judgeEntry
+entry-within n (Balance q k) = search withins
+entry-within n (Oxides c) = search withins
+entry-within n (Dust a b) = search withins
+entry-within n NoEntry = search withins
 
-  pub judge-refused : (x : rules.Record) (r : Record) (f : Fault) → r ≡ flat x → f ≡ judgeFlat place v runs r → (f .number ≡ 0 → ⊥) → f ≡ judge place v runs x
-  judge-refused x r f p e n = refused-flat x f (e ∙ ap (judgeFlat place v runs) p) n
+pub record-within : (n : ℕ) (v : View) (runs : List ℕ) (r : Record) → Within n (judgeRecord v runs r)
+unfolding judgeRecord placeHead rangeHead placeDay rangeMasks placeEnforcement placePlant judgeSurvey judgePair judgeStopped placeBatch rangeBatch placeEnd judgeFuel
+record-within n v runs Bad = search withins
+record-within n v runs (OfHead h) = search withins depth 20
+record-within n v runs (OfDay d) = search withins depth 20
+record-within n v runs (OfEnforcement s) = search withins depth 20
+record-within n v runs (OfPlant s) = search withins depth 20
+record-within n v runs (OfBatch b) = search withins depth 20
+record-within n v runs OfEnd = search (withins, entry-within) depth 20
 
-  -- and one that passes is judged by a day's readings, and by nothing else
-  pub judge-passed : (bytes : List ℕ) (m : DayMasks) (r : Record) (f g : Fault) → r ≡ flat (recordIn bytes) → r ≡ OfDay m → f ≡ judgeFlat place v runs r → f .number ≡ 0
-      → g ≡ judgeHours place (dayOf bytes) → g ≡ judge place v runs (recordIn bytes)
-  unfolding flat
-  judge-passed bytes m r f g p q e z h =
-      let d = dayOf bytes in
-      let day : recordIn bytes ≡ IsDay d = day-in bytes m (sym p ∙ q) in
-      let same : f ≡ judgeFlat place v runs (OfDay (masksOf d)) = e ∙ ap (judgeFlat place v runs) (p ∙ ap flat day) in
-      h ∙ first-goes f (judgeHours place d) z ∙ ap (λ (x : Fault). first x (judgeHours place d)) same ∙ sym (judge-day d) ∙ ap (judge place v runs) (sym day)
+hour-within : (n : ℕ) (d : Day) (h : ℕ) → Within n (judgeHour d h)
+unfolding judgeHour judgePair judgeBlank
+hour-within n d h = search withins depth 20
 
-  pub judge-other : (x : rules.Record) (r : Record) (f : Fault) → r ≡ flat x → NoDay r → f ≡ judgeFlat place v runs r → f ≡ judge place v runs x
-  judge-other x r f p n e = e ∙ ap (judgeFlat place v runs) p ∙ sym (judge-flat x (subst NoDay p n))
+pub readings-within : (n : ℕ) (bytes : List ℕ) (r : Record) → Within n (judgeReadings bytes r)
+unfolding judgeReadings judgeHours
+readings-within n bytes Bad = within-fine n
+readings-within n bytes (OfHead h) = within-fine n
+readings-within n bytes (OfDay d) = within-seek n _ (judgeHour (dayOf bytes)) (hour-within n (dayOf bytes)) 0 hoursOfDay
+readings-within n bytes (OfEnforcement s) = within-fine n
+readings-within n bytes (OfPlant s) = within-fine n
+readings-within n bytes (OfBatch b) = within-fine n
+readings-within n bytes OfEnd = within-fine n
 
-  -- a day that is not refused: its number and masks, and its readings
-  pub day-passed : (d : Day) → judge place v runs (IsDay d) ≡ fine → (judgeFlat place v runs (OfDay (masksOf d)) ≡ fine) × (judgeHours place d ≡ fine)
-  day-passed d e = both-passed (judgeFlat place v runs (OfDay (masksOf d))) (judgeHours place d) (flat-stands (OfDay (masksOf d))) (sym (judge-day d) ∙ e)
+-- ---- the record in bytes: what refuses it as it is read refuses it, and where nothing does its readings speak
+module _ (v : View) (runs bytes : List ℕ) (r : Record) (read : r ≡ recordIn bytes) (f : Fault) (judged : f ≡ judgeRecord v runs r) where
+  rest-of : first f (judgeReadings bytes r) ≡ judge v runs bytes
+  unfolding judge
+  rest-of = ap (λ (x : Fault). first x (judgeReadings bytes r)) judged ∙ ap (λ (x : Record). first (judgeRecord v runs x) (judgeReadings bytes x)) read
+
+  pub judge-refused : (f .number ≡ 0 → ⊥) → f ≡ judge v runs bytes
+  judge-refused n = first-stops f (judgeReadings bytes r) n ∙ rest-of
+
+  pub judge-passed : f .number ≡ 0 → judgeReadings bytes r ≡ judge v runs bytes
+  judge-passed z = first-goes f (judgeReadings bytes r) z ∙ rest-of
 
 -- ---- what the walk asks of a record that is not refused
 pub record HeadOk (v : View) (h : Head) : Type 0 where
   pub outside : v .inside ≡ false
-  pub room : v .lines < 48
-  pub days-most : h .days ≤ 92
+  pub room : v .lines < mostLines
+  pub pollutant-least : 1 ≤ h .pollutant
+  pub pollutant-most : h .pollutant ≤ 3
+  pub days-most : h .days ≤ mostDays
 
-pub record DayOk (v : View) (d : DayMasks) : Type 0 where
+pub record DayOk (v : View) (m : Masks) : Type 0 where
   pub inside : v .inside ≡ true
   pub room : v .days < v .head .days
-  pub turn : d .number ≡ v .days
+  pub turn : m .day ≡ v .days
 
 pub record SurveyOk (v : View) (s : Survey) : Type 0 where
   pub inside : v .inside ≡ true
   pub days-done : v .days ≡ v .head .days
-  pub room : v .enforcement .count + v .plant .count < 120
-  pub in-period : s .hour < 24 * v .head .days
+  pub room : v .enforcement .count + v .plant .count < mostSurveys
+  pub in-period : s .hour < hoursOfDay * v .head .days
   pub pair : PairAccepted (s .pair)
 
 pub record BatchOk (v : View) (b : Batch) : Type 0 where
   pub inside : v .inside ≡ true
-  pub room : v .batches < 92
-  pub sulphur-most : b .sulphur ≤ 2_000
-  pub ash-most : b .ash ≤ 10_000
-  pub fuel-most : v .fuel + b .kg ≤ 10_000_000_000
+  pub room : v .batches < mostBatches
+  pub sulphur-most : b .sulphur ≤ mostSulphur
+  pub ash-most : b .ash ≤ mostAsh
+  pub fuel-most : v .fuel + b .kg ≤ mostFuel
 
 pub record EndOk (v : View) : Type 0 where
   pub inside : v .inside ≡ true
@@ -148,69 +138,69 @@ turned-true : (t : Bool) → not t ≡ true → t ≡ false
 turned-true true e = cc
 turned-true false e = refl
 
-module _ (place : ℕ) (v : View) where
-  pub head-ok : (runs : List ℕ) (h : Head) → judgeFlat place v runs (OfHead h) ≡ fine → HeadOk v h
-  unfolding judgeFlat placeHead rangeHead
+module _ (v : View) where
+  pub head-ok : (runs : List ℕ) (h : Head) → judgeRecord v runs (OfHead h) ≡ fine → HeadOk v h
+  unfolding judgeRecord placeHead rangeHead
   head-ok runs h e =
-      let both = both-passed (placeHead place v h) (rangeHead place h) (search stands) e in
-      let p = each-passed 2 place _ refl (both .0) in
-      let r = each-passed 3 place _ refl (both .1) in
-      record { outside = turned-true (v .inside) (p 0); room = ltb-true _ _ (p 2); days-most = leb-true _ _ (r 11) }
+      let both = both-passed (placeHead v h) (rangeHead h) (search stands) e in
+      let p = each-passed 2 0 _ refl (both .0) in
+      let r = each-passed 3 0 _ refl (both .1) in
+      record { outside = turned-true (v .inside) (p 0); room = ltb-true _ _ (p 2); pollutant-least = leb-true _ _ (r 0); pollutant-most = leb-true _ _ (r 1); days-most = leb-true _ _ (r 11) }
 
-  pub day-ok : (runs : List ℕ) (d : DayMasks) → judgeFlat place v runs (OfDay d) ≡ fine → DayOk v d
-  unfolding judgeFlat placeDay
-  day-ok runs d e =
-      let both = both-passed (placeDay place v (d .number)) (rangeMasks place (d .run) (d .measured)) (search stands) e in
-      let p = each-passed 2 place _ refl (both .0) in
+  pub day-ok : (runs : List ℕ) (m : Masks) → judgeRecord v runs (OfDay m) ≡ fine → DayOk v m
+  unfolding judgeRecord placeDay
+  day-ok runs m e =
+      let both = both-passed (placeDay v m) (rangeMasks m) (search stands) e in
+      let p = each-passed 2 0 _ refl (both .0) in
       record { inside = p 0; room = ltb-true _ _ (p 1); turn = eqb-true _ _ (p 2) }
 
   -- a survey of either kind, by where it stands
-  survey-ok : (runs : List ℕ) (floor : ℕ) (s : Survey) → ((i : ℕ) → getD (surveyTests v floor (s .hour)) i true ≡ true) → judgeSurvey place v runs s ≡ fine → SurveyOk v s
+  survey-ok : (runs : List ℕ) (floor : ℕ) (s : Survey) → ((i : ℕ) → getD (surveyTests v floor (s .hour)) i true ≡ true) → judgeSurvey v runs s ≡ fine → SurveyOk v s
   unfolding judgeSurvey surveyTests surveysLeft
   survey-ok runs floor s p e =
-      let a = passed 3 place (ltb (s .hour) (24 * v .head .days)) _ refl e in
-      let both = both-passed (judgePair place (s .pair)) (judgeStopped place runs (s .hour)) (pair-stands place (s .pair)) (a .1) in
-      record { inside = p 0; days-done = eqb-true _ _ (p 1); room = ltb-true _ _ (p 4); in-period = ltb-true _ _ (a .0); pair = pair-accepted place (s .pair) (both .0) }
+      let a = passed 3 0 (ltb (s .hour) (24 * v .head .days)) _ refl e in
+      let both = both-passed (judgePair (s .pair)) (judgeStopped runs (s .hour)) (pair-stands (s .pair)) (a .1) in
+      record { inside = p 0; days-done = eqb-true _ _ (p 1); room = ltb-true _ _ (p 4); in-period = ltb-true _ _ (a .0); pair = pair-accepted (s .pair) (both .0) }
 
-  pub enforcement-ok : (runs : List ℕ) (s : Survey) → judgeFlat place v runs (OfEnforcement s) ≡ fine → (v .plant .count ≡ 0) × SurveyOk v s
-  unfolding judgeFlat placeEnforcement
+  pub enforcement-ok : (runs : List ℕ) (s : Survey) → judgeRecord v runs (OfEnforcement s) ≡ fine → (v .plant .count ≡ 0) × SurveyOk v s
+  unfolding judgeRecord placeEnforcement
   enforcement-ok runs s e =
-      let both = both-passed (placeEnforcement place v s) (judgeSurvey place v runs s) (search stands) e in
-      let p = each-passed 2 place _ refl (both .0) in
+      let both = both-passed (placeEnforcement v s) (judgeSurvey v runs s) (search stands) e in
+      let p = each-passed 2 0 _ refl (both .0) in
       (eqb-true _ _ (p 0), survey-ok runs (v .enforcement .floor) s (λ i. p (suc i)) (both .1))
 
-  pub plant-ok : (runs : List ℕ) (s : Survey) → judgeFlat place v runs (OfPlant s) ≡ fine → SurveyOk v s
-  unfolding judgeFlat placePlant
+  pub plant-ok : (runs : List ℕ) (s : Survey) → judgeRecord v runs (OfPlant s) ≡ fine → SurveyOk v s
+  unfolding judgeRecord placePlant
   plant-ok runs s e =
-      let both = both-passed (placePlant place v s) (judgeSurvey place v runs s) (search stands) e in
-      survey-ok runs (v .plant .floor) s (each-passed 2 place _ refl (both .0)) (both .1)
+      let both = both-passed (placePlant v s) (judgeSurvey v runs s) (search stands) e in
+      survey-ok runs (v .plant .floor) s (each-passed 2 0 _ refl (both .0)) (both .1)
 
-  pub batch-ok : (runs : List ℕ) (b : Batch) → judgeFlat place v runs (OfBatch b) ≡ fine → BatchOk v b
-  unfolding judgeFlat placeBatch rangeBatch
+  pub batch-ok : (runs : List ℕ) (b : Batch) → judgeRecord v runs (OfBatch b) ≡ fine → BatchOk v b
+  unfolding judgeRecord placeBatch rangeBatch
   batch-ok runs b e =
-      let both = both-passed (placeBatch place v) (rangeBatch place v b) (search stands) e in
-      let p = each-passed 2 place _ refl (both .0) in
-      let r = each-passed 3 place _ refl (both .1) in
+      let both = both-passed (placeBatch v) (rangeBatch v b) (search stands) e in
+      let p = each-passed 2 0 _ refl (both .0) in
+      let r = each-passed 3 0 _ refl (both .1) in
       record { inside = p 0; room = ltb-true _ _ (p 2); sulphur-most = leb-true _ _ (r 1); ash-most = leb-true _ _ (r 2); fuel-most = leb-true _ _ (r 3) }
 
-  entry-ok : (entry : Coefficients) → judgeEntry place entry ≡ fine → entry ≡ NoEntry → ⊥
+  entry-ok : (entry : Coefficients) → judgeEntry entry ≡ fine → entry ≡ NoEntry → ⊥
   unfolding judgeEntry refuse fine
-  entry-ok entry e q = let z : _≡_ {A = ℕ} 7 0 = ap (λ (f : Fault). f .number) (sym (ap (judgeEntry place) q) ∙ e) in omega arith
+  entry-ok entry e q = let z : _≡_ {A = ℕ} 7 0 = ap (λ (f : Fault). f .number) (sym (ap judgeEntry q) ∙ e) in omega arith
 
-  fuel-ok : judgeFuel place v ≡ fine → 2 < lineMethod v → (0 < v .batches) × (coefficientsOf (v .head) ≡ NoEntry → ⊥)
+  fuel-ok : judgeFuel v ≡ fine → 2 < lineMethod v → (0 < v .batches) × (coefficientsOf (v .head) ≡ NoEntry → ⊥)
   unfolding judgeFuel
   fuel-ok e l =
-      let a = passed 6 place (ltb 0 (v .batches)) _ refl (pick-not-le _ _ _ _ _ l refl ∙ e) in
+      let a = passed 6 0 (ltb 0 (v .batches)) _ refl (pick-not-le _ _ _ _ _ l refl ∙ e) in
       (ltb-true _ _ (a .0), entry-ok (coefficientsOf (v .head)) (a .1))
 
-  pub end-ok : (runs : List ℕ) → judgeFlat place v runs OfEnd ≡ fine → EndOk v
-  unfolding judgeFlat placeEnd
+  pub end-ok : (runs : List ℕ) → judgeRecord v runs OfEnd ≡ fine → EndOk v
+  unfolding judgeRecord placeEnd
   end-ok runs e =
-      let both = both-passed (placeEnd place v) (judgeFuel place v) (search stands) e in
-      let p = each-passed 2 place _ refl (both .0) in
+      let both = both-passed (placeEnd v) (judgeFuel v) (search stands) e in
+      let p = each-passed 2 0 _ refl (both .0) in
       record { inside = p 0; days-done = eqb-true _ _ (p 1); by-fuel = fuel-ok (both .1) }
 
   -- a bad record is always refused
-  pub bad-refused : (runs : List ℕ) → judgeFlat place v runs Bad ≡ fine → ⊥
-  unfolding judgeFlat refuse fine
+  pub bad-refused : (runs : List ℕ) → judgeRecord v runs Bad ≡ fine → ⊥
+  unfolding judgeRecord refuse fine
   bad-refused runs e = let z : _≡_ {A = ℕ} 1 0 = ap (λ (f : Fault). f .number) e in omega arith

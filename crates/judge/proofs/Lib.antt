@@ -1,3 +1,4 @@
 -- Laws of judging.
+pub mod Tests
 pub mod Laws
 pub mod Only

@@ -3,9 +3,12 @@ use mathlib.Core.Path.{_≡_}
 use mathlib.Core.List.{List}
 use Prim.Native.Nat.{ℕ}
 use Rattle.rules.specs.declared.Fault.{Fault}
+use Rattle.rules.specs.declared.Record.{Record}
 use Rattle.rules.specs.declared.View.{View}
-use Rattle.record.specs.declared.Record.{Record}
-use Rattle.judge.specs.Flat.{judgeFlat}
+use Rattle.rules.specs.Judge.{lineMethod, judgeRecord}
 
-pub judge-flat : (place : ℕ) (v : View) (runs : List ℕ) (f g : Fault) (r : Record) → f ≡ judgeFlat place v runs r → g ≡ judgeFlat place v runs r → f ≡ g
-judge-flat place v runs f g r p q = cc
+pub judge-record : (v : View) (runs : List ℕ) (r : Record) (f g : Fault) → f ≡ judgeRecord v runs r → g ≡ judgeRecord v runs r → f ≡ g
+judge-record v runs r f g p q = cc
+
+pub line-method : (v : View) (m n : ℕ) → m ≡ lineMethod v → n ≡ lineMethod v → m ≡ n
+line-method v m n p q = cc

@@ -1,6 +1,7 @@
 // An end judged: 2, then 6 and 7 by the line's method.
-use super::FINE;
-use faults::refuse_unless;
+use crate::faults::FINE;
+use crate::faults::first_of;
+use crate::faults::refuse_unless;
 use rules::Coefficients;
 use rules::Fault;
 use rules::View;
@@ -8,34 +9,37 @@ ghost use mathlib.Core.Path.{_≡_};
 ghost use Rattle.rules.specs.Judge.{first, judgeEntry, placeEnd, judgeFuel};
 
 // "No table entry."
-fn judge_entry(place: usize, entry: Coefficients) -> Fault
-    ensures { λ f. ⌜ f ≡ judgeEntry place entry ⌝ }
+fn judge_entry(entry: Coefficients) -> Fault
+    ensures { λ f. ⌜ f ≡ judgeEntry entry ⌝ }
 {
     match entry {
         Coefficients::Balance(_, _) => FINE,
         Coefficients::Oxides(_) => FINE,
         Coefficients::Dust(_, _) => FINE,
-        Coefficients::NoEntry => Fault { number: 7, place },
+        Coefficients::NoEntry => Fault {
+            number: 7,
+            place: 0,
+        },
     }
 }
 
 // "6, then 7, at the line's end record", for methods 3 and 4.
-fn judge_fuel(place: usize, v: View) -> Fault
-    ensures { λ f. ⌜ f ≡ judgeFuel place v ⌝ }
+fn judge_fuel(v: View) -> Fault
+    ensures { λ f. ⌜ f ≡ judgeFuel v ⌝ }
 {
-    if method::line_method(v) <= 2 {
+    if crate::line_method(v) <= 2 {
         return FINE;
     }
-    faults::first_of(
-        refuse_unless(6, place, v.batches > 0),
-        judge_entry(place, tables::coefficients(v.head)),
+    first_of(
+        refuse_unless(6, v.batches > 0),
+        judge_entry(tables::coefficients(v.head)),
     )
 }
 
 // Outside a line, before the last day; then the line's fuel.
-pub fn judge_end(place: usize, v: View) -> Fault
-    ensures { λ f. ⌜ f ≡ first (placeEnd place v) (judgeFuel place v) ⌝ }
+pub fn judge_end(v: View) -> Fault
+    ensures { λ f. ⌜ f ≡ first (placeEnd v) (judgeFuel v) ⌝ }
 {
     let placed = v.inside & (v.days == v.head.days as u32);
-    faults::first_of(refuse_unless(2, place, placed), judge_fuel(place, v))
+    first_of(refuse_unless(2, placed), judge_fuel(v))
 }

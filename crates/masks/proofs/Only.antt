@@ -1,9 +1,7 @@
 -- No second answer meets the promise of a public call. Assumes nothing.
 use mathlib.Core.Path.{_≡_}
 use Prim.Native.Nat.{ℕ}
-use Rattle.rules.specs.declared.Fault.{Fault}
 use Rattle.rules.specs.Hours.{runningOf, missingOf}
-use Rattle.rules.specs.Judge.{rangeMasks}
 
 module _ (run measured : ℕ) where
   pub running-hours : (a b : ℕ) → a ≡ runningOf run → b ≡ runningOf run → a ≡ b
@@ -11,6 +9,3 @@ module _ (run measured : ℕ) where
 
   pub missing-hours : (a b : ℕ) → a ≡ missingOf run measured → b ≡ missingOf run measured → a ≡ b
   missing-hours a b p q = cc
-
-  pub judge-masks : (at : ℕ) (a b : Fault) → a ≡ rangeMasks at run measured → b ≡ rangeMasks at run measured → a ≡ b
-  judge-masks at a b p q = cc

@@ -40,15 +40,15 @@ module _ (file rows conc flow : List ℕ) (a : Answer) (rows' conc' flow' : List
       let said : refuse (a .number) (a .place) ≡ d .fault = ap (λ (b : Answer). refuse (b .number) (b .place)) (d .answers) in
       ap refusedLine said ∙ ap printedFrom (sym (d .refused))
 
-  pub answer-stated : a .number ≡ 0 → length rows' ≡ 336 → statedLines rows' (a .rows) (a .total1 ∷ a .total2 ∷ a .total3 ∷ []) ≡ printedFrom (outcome file)
+  pub answer-stated : a .number ≡ 0 → length rows' ≡ 336 → statedLines rows' (a .rows) (a .totals) ≡ printedFrom (outcome file)
   unfolding printedFrom statedText totalLine acceptance
   answer-stated z l =
       let s = stated file rows a rows' conc flow conc' flow' p z in
       let few : a .rows ≤ 48 = omega (arith, s .most, ap (λ (b : Answer). b .rows) (s .answers)) in
-      let said : statedText rows' (a .rows) (a .total1 ∷ a .total2 ∷ a .total3 ∷ []) ≡ rowLines (s .lines) ++ totalLine (s .lines) =
-      ap₂ (λ (b : Answer) (c : List ℕ). statedText c (b .rows) (b .total1 ∷ b .total2 ∷ b .total3 ∷ [])) (s .answers) (s .leaves)
+      let said : statedText rows' (a .rows) (a .totals) ≡ rowLines (s .lines) ++ totalLine (s .lines) =
+      ap₂ (λ (b : Answer) (c : List ℕ). statedText c (b .rows) (b .totals)) (s .answers) (s .leaves)
       ∙ ap (λ (t : List ℕ). t ++ totalLine (s .lines)) (rows-text (s .lines) _) in
-      sym (all-there rows' (a .rows) (a .total1 ∷ a .total2 ∷ a .total3 ∷ []) few (omega (arith, few, l))) ∙ said ∙ ap printedFrom (sym (s .accepted))
+      sym (all-there rows' (a .rows) (a .totals) few (omega (arith, few, l))) ∙ said ∙ ap printedFrom (sym (s .accepted))
 
 -- ---- 13 comes first
 pub over-long : (input : List ℕ) → 65_536 < length input → refusedLine (refuse 13 0) ≡ printed input

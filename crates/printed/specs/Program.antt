@@ -6,7 +6,7 @@ use lib.Dec.{leb}
 use Rattle.law.specs.Words.{need}
 use Rattle.rules.specs.Judge.{refuse}
 use Rattle.rules.specs.Lines.{Line}
-use Rattle.rules.specs.Row.{rowOf, totalOf}
+use Rattle.rules.specs.Row.{rowOf, totalsOf}
 use Rattle.rules.specs.Walk.{Outcome, Refused, Accepted, outcome}
 use Rattle.writing.specs.Numbers.{spaced}
 use Rattle.text.specs.Line.{refusedLine, totalsLine}
@@ -18,7 +18,7 @@ rowLines (x ∷ xs) = rowLines xs ++ spaced (rowOf x)
 
 -- "then totals for pollutants 1, 2, 3": "total A B C"
 unfoldable pub totalLine : List Line → List ℕ
-totalLine lines = totalsLine (totalOf 1 lines ∷ totalOf 2 lines ∷ totalOf 3 lines ∷ [])
+totalLine lines = totalsLine (totalsOf lines)
 
 -- "a refused input prints only .."; an accepted one its rows and totals
 unfoldable pub printedFrom : Outcome → List ℕ

@@ -17,7 +17,7 @@ pub fn answer_text(file: &[u8], text: &mut [u8]) -> usize
     if a.number != 0 {
         return text::refused_text(text, a.number as u64, a.place as u64);
     }
-    let totals = [a.total1, a.total2, a.total3];
+    let totals = a.totals;
     text::stated_text(text, &rows, a.rows, &totals)
 }
 

@@ -13,9 +13,7 @@ const TOO_FEW: Answer = Answer {
     number: 8,
     place: 0,
     rows: 0,
-    total1: 0,
-    total2: 0,
-    total3: 0,
+    totals: [0; 3],
 };
 
 // 8: the first 2,208 cells of both work slices cleared, and the refusal answered.

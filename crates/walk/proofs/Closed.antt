@@ -7,23 +7,23 @@ use native.Mathlib.Omega.{arith}
 use lib.ListN.{length, take, drop, getD, length-take}
 use lib.Seq.{getD-take}
 use lib.Dec.{eqb}
-use Rattle.law.specs.Words.{need, halvesUp, largest}
-use Rattle.law.proofs.Tests.{need-case, pick-true, pick-false}
+use Rattle.law.specs.Numbers.{hoursOfDay, mostDays, mostHours, rowCells, mostSurveys, mostConcentration, mostFlow, mostAmount, perGram, mostGrams}
+use Rattle.law.specs.Words.{halvesUp, largest}
+use Rattle.law.proofs.Tests.{pick-true, pick-false}
 use Rattle.law.proofs.Halves.{halves-within}
 use mathlib.Core.Bool.{Bool, true, false}
 use borrow.Author.Tests.{eqb-true, eqb-false}
 use Rattle.rules.specs.declared.View.{View}
 use Rattle.walk.specs.declared.books.Sums.{Sums}
 use Rattle.walk.specs.Taking.{EndReady, EndTaken}
-use Rattle.method.specs.Open.{lineMethod}
 use Rattle.period.specs.Period.{periodStates, isFilled, periodCells}
 use Rattle.line.specs.Line.{rowIn}
 use Rattle.period.proofs.Filled.{filled-on, filled-off}
 use Rattle.line.proofs.Halves.{grams-by}
 use Rattle.walk.specs.declared.take.Taken.{Taken}
-use Rattle.walk.specs.Books.{patched}
+use Rattle.walk.specs.Books.{putFrom, Done}
 use Rattle.walk.specs.Views.{afterEnd}
-use Rattle.rules.specs.Judge.{fine}
+use Rattle.rules.specs.Judge.{fine, lineMethod}
 use Rattle.law.proofs.Tables.{table-length}
 use Rattle.hours.specs.States.{stateAt}
 use Rattle.fills.specs.Gaps.{hoursIn, filledCells}
@@ -33,67 +33,62 @@ use Rattle.fills.proofs.Bounds.{largest-each, filled-most, products-most}
 use Rattle.walk.specs.Closing.{Limits, periodWeight, lineGrams, LineGrams, withGrams}
 
 -- the parts of the cells that are weighed are those of the period
-pub parts-weigh : (conc flow : List ℕ) (days : ℕ) → products (take (24 * days - 0) (drop 0 conc)) (take (24 * days - 0) (drop 0 flow)) ≡ periodWeight days conc flow
-parts-weigh conc flow days = let z : 24 * days - 0 ≡ 24 * days = omega arith in ap (λ (k : ℕ). products (take k conc) (take k flow)) z
+pub parts-weigh : (conc flow : List ℕ) (days : ℕ) → products (take (hoursOfDay * days - 0) (drop 0 conc)) (take (hoursOfDay * days - 0) (drop 0 flow)) ≡ periodWeight days conc flow
+parts-weigh conc flow days = let z : hoursOfDay * days - 0 ≡ hoursOfDay * days = omega arith in ap (λ (k : ℕ). products (take k conc) (take k flow)) z
 
-module _ (runs measured : List ℕ) (days : ℕ) (few : days ≤ 92) where
-  states-length : length (periodStates runs measured days) ≡ 24 * days
-  states-length = table-length (stateAt runs measured) (24 * days)
+module _ (runs measured : List ℕ) (days : ℕ) (few : days ≤ mostDays) where
+  states-length : length (periodStates runs measured days) ≡ hoursOfDay * days
+  states-length = table-length (stateAt runs measured) (hoursOfDay * days)
 
-  filled-largest : (M : ℕ) (cells : List ℕ) → length cells ≡ 2_208 → ((h : ℕ) → getD cells h 0 ≤ M) → largest (take (24 * days) (filledCells (periodStates runs measured days) cells)) ≤ M
+  filled-largest : (M : ℕ) (cells : List ℕ) → length cells ≡ mostHours → ((h : ℕ) → getD cells h 0 ≤ M) → largest (take (hoursOfDay * days) (filledCells (periodStates runs measured days) cells)) ≤ M
   filled-largest M cells e m =
       let states = periodStates runs measured days in
-      let all : hoursIn states cells ≡ 24 * days = hours-all states cells (omega (arith, states-length)) (omega (arith, states-length)) ∙ states-length in
-      largest-each M (take (24 * days) (filledCells states cells))
+      let all : hoursIn states cells ≡ hoursOfDay * days = hours-all states cells (omega (arith, states-length)) (omega (arith, states-length)) ∙ states-length in
+      largest-each M (take (hoursOfDay * days) (filledCells states cells))
       (λ k l.
-      let i : k < 24 * days = omega (arith, simp length-take at l) in
-      subst (λ (v : ℕ). v ≤ M) (sym (getD-take (24 * days) (filledCells states cells) k 0 i)) (filled-most M states cells (λ j t. m j) k (omega arith)))
+      let i : k < hoursOfDay * days = omega (arith, simp length-take at l) in
+      subst (λ (v : ℕ). v ≤ M) (sym (getD-take (hoursOfDay * days) (filledCells states cells) k 0 i)) (filled-most M states cells (λ j t. m j) k (omega arith)))
 
-  pub period-products : (conc flow : List ℕ) → length conc ≡ 2_208 → length flow ≡ 2_208 → Limits conc flow
-      → products (take (24 * days) (filledCells (periodStates runs measured days) conc)) (take (24 * days) (filledCells (periodStates runs measured days) flow)) ≤ 11_040_000_000_000_000
+  pub period-products : (conc flow : List ℕ) → length conc ≡ mostHours → length flow ≡ mostHours → Limits conc flow
+      → products (take (hoursOfDay * days) (filledCells (periodStates runs measured days) conc)) (take (hoursOfDay * days) (filledCells (periodStates runs measured days) flow)) ≤ mostHours * mostAmount
   period-products conc flow c f l =
-      let xs = take (24 * days) (filledCells (periodStates runs measured days) conc) in
-      let ys = take (24 * days) (filledCells (periodStates runs measured days) flow) in
-      let n : length xs ≤ 2_208 = simp length-take (omega arith) in
-      omega (arith, products-most 1_000_000 5_000_000 xs ys (filled-largest 1_000_000 conc c (l .concentrations)) (filled-largest 5_000_000 flow f (l .flows)))
+      let xs = take (hoursOfDay * days) (filledCells (periodStates runs measured days) conc) in
+      let ys = take (hoursOfDay * days) (filledCells (periodStates runs measured days) flow) in
+      let n : length xs ≤ mostHours = simp length-take (omega arith) in
+      omega (arith, products-most mostConcentration mostFlow xs ys (filled-largest mostConcentration conc c (l .concentrations)) (filled-largest mostFlow flow f (l .flows)))
 
-  pub period-most : (conc flow conc' flow' : List ℕ) → length conc ≡ 2_208 → length flow ≡ 2_208 → Limits conc flow
-      → conc' ≡ filledCells (periodStates runs measured days) conc → flow' ≡ filledCells (periodStates runs measured days) flow → periodWeight days conc' flow' ≤ 11_040_000_000_000_000
+  pub period-most : (conc flow conc' flow' : List ℕ) → length conc ≡ mostHours → length flow ≡ mostHours → Limits conc flow
+      → conc' ≡ filledCells (periodStates runs measured days) conc → flow' ≡ filledCells (periodStates runs measured days) flow → periodWeight days conc' flow' ≤ mostHours * mostAmount
   period-most conc flow conc' flow' c f l p q =
-      subst (λ (n : ℕ). n ≤ 11_040_000_000_000_000) (sym (ap₂ (periodWeight days) p q)) (period-products conc flow c f l)
-
--- a share of the grams is at most all of them
-pub share-most : (pollutant own grams r : ℕ) → r ≡ need 0 (eqb pollutant own) grams → r ≤ grams
-share-most pollutant own grams r e =
-    subst (λ (n : ℕ). n ≤ grams) (sym e) (need-case (λ (n : ℕ). n ≤ grams) 0 (eqb pollutant own) grams (λ _. omega arith) (λ _. omega arith))
+      subst (λ (n : ℕ). n ≤ mostHours * mostAmount) (sym (ap₂ (periodWeight days) p q)) (period-products conc flow c f l)
 
 -- ---- no line's grams are too large
-halves-most : (n d m : ℕ) → 100_000 ≤ d → n ≤ m → 2 * (100_000 * halvesUp n d) ≤ 2 * m + d
+halves-most : (n d m : ℕ) → perGram ≤ d → n ≤ m → 2 * (perGram * halvesUp n d) ≤ 2 * m + d
 halves-most n d m l h =
     let w = halves-within n d (omega arith) in
-    let k : 100_000 * halvesUp n d ≤ d * halvesUp n d = mul-le-mul-right (halvesUp n d) l in
+    let k : perGram * halvesUp n d ≤ d * halvesUp n d = mul-le-mul-right (halvesUp n d) l in
     omega (arith, w .1)
 
-module _ (v : View) (s : Sums) (runs measured conc flow conc' flow' : List ℕ) (g : ℕ) (e : EndReady v s conc flow) where
+module _ (v : View) (s : Sums) (runs measured conc flow conc' flow' : List ℕ) (totals : List ℕ) (g : ℕ) (e : EndReady v s conc flow totals) where
   abbrev figures : ℕ → Type 0
   figures m = LineGrams m v s (periodStates runs measured (v .head .days)) conc flow conc' flow' g
 
-  small-by : (m : ℕ) → m ≡ lineMethod v → figures m → (a b : Bool) → eqb m 1 ≡ a → eqb m 2 ≡ b → g ≤ 20_000_000_000_000
+  small-by : (m : ℕ) → m ≡ lineMethod v → figures m → (a b : Bool) → eqb m 1 ≡ a → eqb m 2 ≡ b → g ≤ mostGrams
   small-by m q r true b t u =
       let k = r .automatic (eqb-true m 1 t) in
       let most = period-most runs measured (v .head .days) (e .days) conc flow conc' flow' (e .concLong) (e .flowLong) (e .limits) (k .concentrations) (k .flows) in
-      omega (arith, k .grams, halves-most (periodWeight (v .head .days) conc' flow') 100_000 11_040_000_000_000_000 (omega arith) most)
+      omega (arith, k .grams, halves-most (periodWeight (v .head .days) conc' flow') perGram (mostHours * mostAmount) (omega arith) most)
   small-by m q r false true t u =
       let z = eqb-true m 2 u in
       let k = r .manual z in
       let one = e .some (sym q ∙ z) in
-      let h = halves-most (s .weight * v .running) (s .surveyed * 100_000) 1_324_800_000_000_000_000 (omega arith) (mul-le-mul {n₂ = 600_000_000_000_000} {m₂ = 2_208} (e .weight) (e .running)) in
+      let h = halves-most (s .weight * v .running) (s .surveyed * perGram) (mostSurveys * mostAmount * mostHours) (omega arith) (mul-le-mul {n₂ = mostSurveys * mostAmount} {m₂ = mostHours} (e .weight) (e .running)) in
       omega (arith, k .2, h, e .surveyed)
   small-by m q r false false t u =
       let k = r .fuel (eqb-false m 1 t) (eqb-false m 2 u) in
       omega (arith, k .2, e .fuel)
 
-  pub line-small : (m : ℕ) → m ≡ lineMethod v → figures m → g ≤ 20_000_000_000_000
+  pub line-small : (m : ℕ) → m ≡ lineMethod v → figures m → g ≤ mostGrams
   line-small m q r = small-by m q r (eqb m 1) (eqb m 2) refl refl
 
   -- ---- filled under method 1, and else as they were
@@ -108,7 +103,7 @@ module _ (v : View) (s : Sums) (runs measured conc flow conc' flow' : List ℕ) 
       (ec : conc' ≡ periodCells (isFilled m (v .head .days) conc flow) (periodStates runs measured (v .head .days)) conc)
       (el : flow' ≡ periodCells (isFilled m (v .head .days) conc flow) (periodStates runs measured (v .head .days)) flow)
     where
-      pub weight-most : m ≡ 1 → periodWeight (v .head .days) conc' flow' ≤ 11_040_000_000_000_000
+      pub weight-most : m ≡ 1 → periodWeight (v .head .days) conc' flow' ≤ mostHours * mostAmount
       weight-most z = period-most runs measured (v .head .days) (e .days) conc flow conc' flow' (e .concLong) (e .flowLong) (e .limits) (ec ∙ filled-now m conc z) (el ∙ filled-now m flow z)
 
       line-by : (a b : Bool) → eqb m 1 ≡ a → eqb m 2 ≡ b → m ≡ lineMethod v → g ≡ lineGrams m v s conc' flow' → figures m
@@ -123,7 +118,7 @@ module _ (v : View) (s : Sums) (runs measured conc flow conc' flow' : List ℕ) 
       line-by false true t u q r =
           let n = eqb-false m 1 t in
           let z = eqb-true m 2 u in
-          let w = grams-by (s .weight * v .running) (s .surveyed) (e .some (sym q ∙ z)) (omega (arith, mul-le-mul {n₂ = 600_000_000_000_000} {m₂ = 2_208} (e .weight) (e .running))) in
+          let w = grams-by (s .weight * v .running) (s .surveyed) (e .some (sym q ∙ z)) (omega (arith, mul-le-mul {n₂ = mostSurveys * mostAmount} {m₂ = mostHours} (e .weight) (e .running))) in
           record {
             automatic = λ i. absurd (n i);
             manual = λ _. (ec ∙ plain-now m conc n, el ∙ plain-now m flow n, r ∙ sym (pick-false _ _ _ _ t refl) ∙ sym (pick-true _ _ _ _ u refl) ∙ sym w);
@@ -141,10 +136,10 @@ module _ (v : View) (s : Sums) (runs measured conc flow conc' flow' : List ℕ) 
       line-is q r = line-by (eqb m 1) (eqb m 2) refl refl q r
 
   -- ---- the end of a line, put together
-  pub end-taken : (out out' : List ℕ) (r : Taken) (m first : ℕ) → m ≡ lineMethod v → figures m → out' ≡ patched (λ k. getD (rowIn v m g first) k 0) 7 (7 * v .lines) out
-      → r .fault ≡ fine → r .view ≡ afterEnd v → r .sums ≡ withGrams s (v .head .pollutant) g
-      → EndTaken v s (periodStates runs measured (v .head .days)) first conc flow out conc' flow' out' r
-  end-taken out out' r m first q l o a b c =
+  pub end-taken : (d d' : Done) (r : Taken) (m first : ℕ) → m ≡ lineMethod v → figures m → d' .rows ≡ putFrom (λ k. getD (rowIn v m g first) k 0) rowCells (rowCells * v .lines) (d .rows)
+      → d' .totals ≡ withGrams (d .totals) (v .head .pollutant) g → r .fault ≡ fine → r .view ≡ afterEnd v → r .sums ≡ s
+      → EndTaken v s (periodStates runs measured (v .head .days)) first conc flow d conc' flow' d' r
+  end-taken d d' r m first q l o t a b c =
       record {
         grams = g;
         small = line-small m q l;
@@ -152,5 +147,6 @@ module _ (v : View) (s : Sums) (runs measured conc flow conc' flow' : List ℕ) 
         faults = a;
         view = b;
         sums = c;
-        outNow = o ∙ ap (λ (k : ℕ). patched (λ i. getD (rowIn v k g first) i 0) 7 (7 * v .lines) out) q;
+        rowsNow = o ∙ ap (λ (k : ℕ). putFrom (λ i. getD (rowIn v k g first) i 0) rowCells (rowCells * v .lines) (d .rows)) q;
+        totalsNow = t;
       }

@@ -2,15 +2,17 @@
 use mathlib.Core.Path.{_≡_, refl, _∙_, sym, ap, ap₂, subst}
 use mathlib.Core.Bool.{Bool, true, false}
 use mathlib.Core.List.{List, [], _∷_, _++_, map, append-assoc}
-use Prim.Native.Nat.{ℕ, suc, _+_, _*_, _<_, _≤_}
+use Prim.Native.Nat.{ℕ, suc, _+_, _-_, _*_, _<_, _≤_}
+use native.Mathlib.Nat.{zero-add}
 use native.Mathlib.Omega.{arith}
-use native.Mathlib.Decide.{decLt}
-use lib.ListN.{length, drop, getD, length-map, List·getD-eq-default}
-use lib.Seq.{take-at, drop-at, drop-drop}
+use native.Mathlib.Decide.{decLt, ℕ-discrete}
+use lib.ListN.{length, drop, getD, set, length-map, length-set, List·getD-eq-default}
+use lib.Seq.{take-at, drop-at, drop-drop, getD-set-same, getD-set-other}
 use lib.Dec.{eqb}
-use borrow.Author.Tests.{eqb-true, eqb-false}
+use borrow.Author.Tests.{eqb-true, eqb-false, eq-eqb, ne-eqb}
+use Rattle.law.specs.Numbers.{hoursOfDay, mostHours, rowCells, totalCells, perGram, mostGrams}
 use Rattle.law.specs.Words.{need, pick, sumOf, table, over, halvesUp}
-use Rattle.law.proofs.Tables.{table-length, table-at}
+use Rattle.law.proofs.Tables.{table-length, table-at, table-set}
 use Rattle.rules.specs.declared.Head.{Head}
 use Rattle.rules.specs.declared.View.{View}
 use Rattle.rules.specs.declared.Coefficients.the-variants.{NoEntry}
@@ -20,7 +22,7 @@ use Rattle.rules.specs.Method.{methodOf, method}
 use Rattle.rules.specs.Tables.{coefficientsOf}
 use Rattle.rules.specs.Fill.{Values, cs, ls, filled, unfilled}
 use Rattle.rules.specs.Grams.{hourly, amount, automatic, manual, sulphurOf, grams}
-use Rattle.rules.specs.Row.{rowOf, rowsOf, totalOf, held, cells, concentrationCells, flowCells}
+use Rattle.rules.specs.Row.{rowOf, rowsOf, totalOf, totalsOf, held, cells, concentrationCells, flowCells}
 use Rattle.rules.specs.Walk.{Between, Inside, viewOf}
 use Rattle.rules.proofs.Method.{grams-automatic, grams-manual, grams-fuel}
 use Rattle.answers.proofs.Rows.{rows-long}
@@ -32,17 +34,16 @@ use Rattle.fuel.proofs.Figures.{line-figure}
 use Rattle.walk.specs.declared.books.Sums.{Sums}
 use Rattle.walk.specs.declared.take.Taken.{Taken}
 use Rattle.walk.specs.Views.{afterEnd}
-use Rattle.walk.specs.Books.{noRows, patched, valuesAt, CellsKept, Kept}
-use Rattle.walk.specs.Closing.{gramsIn, periodWeight, LineGrams}
+use Rattle.walk.specs.Books.{noRows, putFrom, valuesAt, Open, inOpen, Done, CellsKept, Kept}
+use Rattle.walk.specs.Closing.{gramsIn, periodWeight, LineGrams, withGrams}
 use Rattle.walk.specs.Taking.{EndTaken}
 use Rattle.period.specs.Period.{periodStates}
 use Rattle.line.specs.Line.{rowIn}
-use Rattle.method.specs.Open.{lineMethod}
+use Rattle.rules.specs.Judge.{lineMethod}
 use Rattle.walk.proofs.Views.{survey-count, view-end}
 use Rattle.walk.proofs.Filled.{unfilled-concentrations, unfilled-flows, filled-concentrations, filled-flows, held-length, held-cells}
 use Rattle.walk.proofs.Cleared.{cells-past}
-use Rattle.walk.proofs.Closed.{share-most}
-use Rattle.walk.proofs.Standing.{patched-length}
+use Rattle.walk.proofs.Standing.{put-length}
 
 -- the method of the view is the line's
 pub method-is : (x : Line) (done : List Line) → lineMethod (viewOf (Inside x done)) ≡ method x
@@ -51,16 +52,16 @@ method-is x done =
     ap₂ (λ (a b : ℕ). methodOf (x .head) (a + b) (running (x .days)) (lacking (x .days))) (survey-count (x .enforcement)) (survey-count (x .plant))
 
 -- a cell is within the limit of its quantity
-table-most : (f : ℕ → ℕ) (M : ℕ) → ((h : ℕ) → f h ≤ M) → (h : ℕ) → Dec (h < 2_208) → getD (table f 2_208) h 0 ≤ M
-table-most f M m h (yes l) = subst (λ (n : ℕ). n ≤ M) (sym (table-at f 2_208 h 0 l)) (m h)
-table-most f M m h (no l) = subst (λ (n : ℕ). n ≤ M) (sym (List·getD-eq-default (table f 2_208) 0 (let e : length (table f 2_208) ≤ h = omega (arith, table-length f 2_208) in e))) (omega arith)
+table-most : (f : ℕ → ℕ) (M : ℕ) → ((h : ℕ) → f h ≤ M) → (h : ℕ) → Dec (h < mostHours) → getD (table f mostHours) h 0 ≤ M
+table-most f M m h (yes l) = subst (λ (n : ℕ). n ≤ M) (sym (table-at f mostHours h 0 l)) (m h)
+table-most f M m h (no l) = subst (λ (n : ℕ). n ≤ M) (sym (List·getD-eq-default (table f mostHours) 0 (let e : length (table f mostHours) ≤ h = omega (arith, table-length f mostHours) in e))) (omega arith)
 
 pub cells-most : {value : ℕ → ℕ} {most : ℕ} {cells : List ℕ} → CellsKept value most cells → (h : ℕ) → getD cells h 0 ≤ most
-cells-most {value} {most} c h = subst (λ (l : List ℕ). getD l h 0 ≤ most) (sym (c .hold)) (table-most value most (c .within) h (decLt h 2_208))
+cells-most {value} {most} c h = subst (λ (l : List ℕ). getD l h 0 ≤ most) (sym (c .hold)) (table-most value most (c .within) h (decLt h mostHours))
 
 -- ---- method 1: what is weighed is the sum of the filled hours
 module _ (x : Line) (few : length (x .days) ≤ 92) where
-  weighed : periodWeight (length (x .days)) (filledCells (periodStates (runMasks (x .days)) (measuredMasks (x .days)) (length (x .days))) (table (λ h. valuesAt x h .c) 2_208)) (filledCells (periodStates (runMasks (x .days)) (measuredMasks (x .days)) (length (x .days))) (table (λ h. valuesAt x h .l) 2_208))
+  weighed : periodWeight (length (x .days)) (filledCells (periodStates (runMasks (x .days)) (measuredMasks (x .days)) (length (x .days))) (table (λ h. valuesAt x h .c) mostHours)) (filledCells (periodStates (runMasks (x .days)) (measuredMasks (x .days)) (length (x .days))) (table (λ h. valuesAt x h .l) mostHours))
       ≡ sumOf amount (hourly filled x)
   weighed = ap₂ products (filled-concentrations x few .0) (filled-flows x few .0) ∙ sym (products-amounts (hourly filled x))
 
@@ -78,6 +79,15 @@ held-plain : (x : Line) → eqb (method x) 1 ≡ false → held x ≡ hourly unf
 unfolding held pick
 held-plain x t = rw t
 
+-- one cell of a list set, none of it too large
+set-most : (xs : List ℕ) (k v M : ℕ) → ((i : ℕ) → getD xs i 0 ≤ M) → v ≤ M → (i : ℕ) → getD (set xs k v) i 0 ≤ M
+set-most xs k v M m l i = by (ℕ-discrete i k) (decLt k (length xs))
+  where
+    by : Dec (i ≡ k) → Dec (k < length xs) → getD (set xs k v) i 0 ≤ M
+    by (yes e) (yes h) = subst (λ (j : ℕ). getD (set xs k v) j 0 ≤ M) (sym e) (subst (λ (n : ℕ). n ≤ M) (sym (getD-set-same xs k v 0 h)) l)
+    by (yes e) (no h) = subst (λ (n : ℕ). n ≤ M) (sym (List·getD-eq-default (set xs k v) 0 (let q : length (set xs k v) ≤ i = omega (arith, e, length-set xs k v) in q))) (omega arith)
+    by (no e) h = subst (λ (n : ℕ). n ≤ M) (sym (getD-set-other xs k i v 0 e)) (m i)
+
 -- ---- the row goes behind the rows
 seven : (a b c d e f g : ℕ) → table (λ i. getD (a ∷ b ∷ c ∷ d ∷ e ∷ f ∷ g ∷ []) i 0) 7 ≡ a ∷ b ∷ c ∷ d ∷ e ∷ f ∷ g ∷ []
 unfolding table
@@ -87,15 +97,15 @@ row-same : (a b c d e f g a' b' c' d' e' f' g' : ℕ) → a ≡ a' → b ≡ b' 
     → a ∷ b ∷ c ∷ d ∷ e ∷ f ∷ g ∷ [] ≡ a' ∷ b' ∷ c' ∷ d' ∷ e' ∷ f' ∷ g' ∷ []
 row-same a b c d e f g a' b' c' d' e' f' g' i j k l m n o = cc
 
-row-behind : (n : ℕ) (row rows rest out out' : List ℕ) (w : ℕ → ℕ) → length rows ≡ n → out ≡ rows ++ drop n rest → table w 7 ≡ row → out' ≡ patched w 7 n out → out' ≡ (rows ++ row) ++ drop (n + 7) rest
+row-behind : (n : ℕ) (row rows rest out out' : List ℕ) (w : ℕ → ℕ) → length rows ≡ n → out ≡ rows ++ drop n rest → table w 7 ≡ row → out' ≡ putFrom w 7 n out → out' ≡ (rows ++ row) ++ drop (n + 7) rest
 row-behind n row rows rest out out' w l r e o =
-    o ∙ ap (patched w 7 n) r
+    o ∙ ap (putFrom w 7 n) r
     ∙ ap₂ (λ (s t : List ℕ). s ++ over w 7 t) (take-at rows (drop n rest) n l) (drop-at rows (drop n rest) n l)
     ∙ ap₂ (λ (s t : List ℕ). rows ++ (s ++ t)) e (drop-drop 7 n rest)
     ∙ sym (append-assoc rows row (drop (n + 7) rest))
 
-module _ (x : Line) (done : List Line) (v : View) (s : Sums) (runs measured flags conc flow out : List ℕ)
-    (k : Kept (Inside x done) v s runs measured flags conc flow out) (all-days : length (x .days) ≡ x .head .days)
+module _ (x : Line) (done : List Line) (v : View) (s : Sums) (o : Open) (d : Done)
+    (k : Kept (Inside x done) v s o d) (all-days : length (x .days) ≡ x .head .days)
     (entry : (method x ≡ 1 → ⊥) → (method x ≡ 2 → ⊥) → coefficientsOf (x .head) ≡ NoEntry → ⊥)
   where
     few : length (x .days) ≤ 92
@@ -110,6 +120,9 @@ module _ (x : Line) (done : List Line) (v : View) (s : Sums) (runs measured flag
     v-head : v .head ≡ x .head
     unfolding viewOf
     v-head = ap (λ (w : View). w .head) (k .view)
+
+    v-pollutant : v .head .pollutant ≡ x .head .pollutant
+    v-pollutant = ap (λ (h : Head). h .pollutant) v-head
 
     v-running : v .running ≡ running (x .days)
     unfolding viewOf
@@ -136,7 +149,7 @@ module _ (x : Line) (done : List Line) (v : View) (s : Sums) (runs measured flag
     fuel-figure : fuelFigure (v .head) (v .fuel) (s .sulphur) (s .ash) ≡ fuelFigure (x .head) (fuel (x .batches)) (sulphurOf (x .batches)) (ashOf (x .batches))
     fuel-figure = rw (v-head, v-fuel, k .books .fuel .largest, k .books .fuel .summed)
 
-    module _ (conc' flow' : List ℕ) (g : ℕ) (l : LineGrams (lineMethod v) v s lineStates conc flow conc' flow' g) where
+    module _ (conc' flow' : List ℕ) (g : ℕ) (l : LineGrams (lineMethod v) v s lineStates (o .concentrations) (o .flows) conc' flow' g) where
       closes-by : (p q : Bool) → eqb (method x) 1 ≡ p → eqb (method x) 2 ≡ q → Closes x conc' flow' g
       unfolding automatic manual
       closes-by true q t u =
@@ -144,14 +157,14 @@ module _ (x : Line) (done : List Line) (v : View) (s : Sums) (runs measured flag
           let f = l .automatic (v-method ∙ z) in
           let state : ℕ → List ℕ = λ n. periodStates (runMasks (x .days)) (measuredMasks (x .days)) n in
           let c : conc' ≡ filledCells (state (length (x .days))) (table (λ h. valuesAt x h .c) 2_208) = f .concentrations ∙ ap₂ (λ (n : ℕ) (t : List ℕ). filledCells (state n) t) v-days (k .books .concentrations .hold) in
-          let d : flow' ≡ filledCells (state (length (x .days))) (table (λ h. valuesAt x h .l) 2_208) = f .flows ∙ ap₂ (λ (n : ℕ) (t : List ℕ). filledCells (state n) t) v-days (k .books .flows .hold) in
+          let w : flow' ≡ filledCells (state (length (x .days))) (table (λ h. valuesAt x h .l) 2_208) = f .flows ∙ ap₂ (λ (n : ℕ) (t : List ℕ). filledCells (state n) t) v-days (k .books .flows .hold) in
           record {
             figure =
-                f .grams ∙ ap (λ (n : ℕ). halvesUp (periodWeight n conc' flow') 100_000) v-days
-                ∙ ap₂ (λ (i j : List ℕ). halvesUp (periodWeight (length (x .days)) i j) 100_000) c d
-                ∙ ap (λ (n : ℕ). halvesUp n 100_000) (weighed x few) ∙ sym (grams-automatic x z);
+                f .grams ∙ ap (λ (n : ℕ). halvesUp (periodWeight n conc' flow') perGram) v-days
+                ∙ ap₂ (λ (i j : List ℕ). halvesUp (periodWeight (length (x .days)) i j) perGram) c w
+                ∙ ap (λ (n : ℕ). halvesUp n perGram) (weighed x few) ∙ sym (grams-automatic x z);
             concentrations = c ∙ filled-concentrations x few .1 ∙ ap (λ (w : List Values). cells (cs w)) (sym (held-filled x t));
-            flows = d ∙ filled-flows x few .1 ∙ ap (λ (w : List Values). cells (ls w)) (sym (held-filled x t));
+            flows = w ∙ filled-flows x few .1 ∙ ap (λ (vs : List Values). cells (ls vs)) (sym (held-filled x t));
           }
       closes-by false true t u =
           let f = l .manual (v-method ∙ eqb-true (method x) 2 u) in
@@ -173,7 +186,7 @@ module _ (x : Line) (done : List Line) (v : View) (s : Sums) (runs measured flag
       closes : Closes x conc' flow' g
       closes = closes-by (eqb (method x) 1) (eqb (method x) 2) refl refl
 
-    module _ (conc' flow' out' : List ℕ) (r : Taken) (e : EndTaken v s lineStates lineFirst conc flow out conc' flow' out' r) where
+    module _ (conc' flow' : List ℕ) (d' : Done) (r : Taken) (e : EndTaken v s lineStates lineFirst (o .concentrations) (o .flows) d conc' flow' d' r) where
       shut : Closes x conc' flow' (e .grams)
       shut = closes conc' flow' (e .grams) (e .figures)
 
@@ -183,43 +196,71 @@ module _ (x : Line) (done : List Line) (v : View) (s : Sums) (runs measured flag
           row-same _ _ _ _ _ _ _ _ _ _ _ _ _ _ (ap (λ (h : Head). h .stack) v-head) (ap (λ (h : Head). h .pollutant) v-head)
           v-method (shut .figure) v-running v-missing (ap (firstMissing (runMasks (x .days)) (measuredMasks (x .days))) v-days)
 
-      rows-now : out' ≡ (rowsOf done ++ rowOf x) ++ drop (7 * suc (length done)) noRows
+      rows-now : d' .rows ≡ (rowsOf done ++ rowOf x) ++ drop (rowCells * suc (length done)) noRows
       rows-now =
-          let n : 7 * length done + 7 ≡ 7 * suc (length done) = omega arith in
+          let n : rowCells * length done + rowCells ≡ rowCells * suc (length done) = omega arith in
           let w : ℕ → ℕ = λ i. getD (rowIn v (lineMethod v) (e .grams) lineFirst) i 0 in
-          row-behind (7 * length done) (rowOf x) (rowsOf done) noRows out out' w (rows-long done) (k .rows) (seven _ _ _ _ _ _ _ ∙ row-is)
-          (e .outNow ∙ ap (λ (i : ℕ). patched w 7 (7 * i) out) v-lines)
+          row-behind (rowCells * length done) (rowOf x) (rowsOf done) noRows (d .rows) (d' .rows) w (rows-long done) (k .done .rows) (seven _ _ _ _ _ _ _ ∙ row-is)
+          (e .rowsNow ∙ ap (λ (i : ℕ). putFrom w rowCells (rowCells * i) (d .rows)) v-lines)
           ∙ ap (λ (i : ℕ). (rowsOf done ++ rowOf x) ++ drop i noRows) n
 
-      total-now : (p t : ℕ) → t ≡ totalOf p done → need 0 (eqb (v .head .pollutant) p) (e .grams) + t ≡ totalOf p (x ∷ done)
-      unfolding totalOf sumOf
-      total-now p t q = ap₂ (λ (i : ℕ) (j : ℕ). need 0 (eqb i p) j + t) (ap (λ (h : Head). h .pollutant) v-head) (shut .figure) ∙ ap (λ (i : ℕ). need 0 (eqb (x .head .pollutant) p) (grams x) + i) q
+      -- the totals of the lines done, in cells
+      total-at : (i : ℕ) → i < totalCells → getD (d .totals) i 0 ≡ totalOf (i + 1) done
+      unfolding totalsOf
+      total-at i l = ap (λ (t : List ℕ). getD t i 0) (k .done .totals) ∙ table-at (λ j. totalOf (j + 1) done) totalCells i 0 l
 
-      total-most : (p t : ℕ) → t ≤ length done * 20_000_000_000_000 → need 0 (eqb (v .head .pollutant) p) (e .grams) + t ≤ suc (length done) * 20_000_000_000_000
-      total-most p t l = omega (arith, share-most (v .head .pollutant) p (e .grams) (need 0 (eqb (v .head .pollutant) p) (e .grams)) refl, e .small)
+      abbrev own : ℕ
+      own = v .head .pollutant - 1
 
-      pub kept-end : Kept (Between (x ∷ done)) (r .view) (r .sums) runs measured flags conc' flow' out'
+      own-less : own < totalCells
+      own-less = omega (arith, v-pollutant, k .books .pollutant)
+
+      own-total : e .grams + getD (d .totals) own 0 ≡ totalOf (own + 1) (x ∷ done)
+      unfolding totalOf sumOf need
+      own-total =
+          let n : x .head .pollutant ≡ own + 1 = omega (arith, v-pollutant, k .books .pollutant) in
+          ap₂ (λ (i j : ℕ). i + j) (shut .figure) (total-at own own-less) ∙ rw (eq-eqb (x .head .pollutant) (own + 1) n)
+
+      other-total : (i : ℕ) → (i ≡ own → ⊥) → totalOf (i + 1) (x ∷ done) ≡ totalOf (i + 1) done
+      unfolding totalOf sumOf need
+      other-total i n = rw (ne-eqb (x .head .pollutant) (i + 1) (λ q. n (omega (arith, q, v-pollutant, k .books .pollutant)))) (zero-add _)
+
+      totals-now : d' .totals ≡ totalsOf (x ∷ done)
+      unfolding totalsOf
+      totals-now =
+          e .totalsNow
+          ∙ ap (λ (t : List ℕ). set t own (e .grams + getD (d .totals) own 0)) (k .done .totals)
+          ∙ table-set (λ i. totalOf (i + 1) done) (λ i. totalOf (i + 1) (x ∷ done)) totalCells own (e .grams + getD (d .totals) own 0) 0 own-less (sym own-total) other-total
+
+      total-most : (i : ℕ) → getD (d' .totals) i 0 ≤ suc (length done) * mostGrams
+      total-most i =
+          subst (λ (t : List ℕ). getD t i 0 ≤ suc (length done) * mostGrams) (sym (e .totalsNow))
+          (set-most (d .totals) own (e .grams + getD (d .totals) own 0) (suc (length done) * mostGrams) (λ j. omega (arith, k .done .most j)) (omega (arith, k .done .most own, e .small)) i)
+
+      pub kept-end : Kept (Between (x ∷ done)) (r .view) (r .sums) (inOpen (o .runs) (o .measured) (o .flags) conc' flow') d'
       unfolding rowsOf concentrationCells flowCells cs ls
       kept-end =
           let c = shut .concentrations in
           let l = shut .flows in
-          let used : r .sums .used ≡ 24 * x .head .days = ap (λ (u : Sums). u .used) (e .sums) ∙ k .books .used in
+          let used : r .sums .used ≡ hoursOfDay * x .head .days = ap (λ (u : Sums). u .used) (e .sums) ∙ k .books .used in
           record {
             view = e .view ∙ ap afterEnd (k .view) ∙ view-end x done;
             lines = omega (arith, k .lines);
-            rows = rows-now;
-            total1 = ap (λ (u : Sums). u .total1) (e .sums) ∙ total-now 1 (s .total1) (k .total1);
-            total2 = ap (λ (u : Sums). u .total2) (e .sums) ∙ total-now 2 (s .total2) (k .total2);
-            total3 = ap (λ (u : Sums). u .total3) (e .sums) ∙ total-now 3 (s .total3) (k .total3);
-            most1 = omega (arith, ap (λ (u : Sums). u .total1) (e .sums), total-most 1 (s .total1) (k .most1));
-            most2 = omega (arith, ap (λ (u : Sums). u .total2) (e .sums), total-most 2 (s .total2) (k .most2));
-            most3 = omega (arith, ap (λ (u : Sums). u .total3) (e .sums), total-most 3 (s .total3) (k .most3));
-            runsLong = k .runsLong;
-            measuredLong = k .measuredLong;
-            flagsLong = k .flagsLong;
-            concLong = ap length c ∙ held-cells x (λ w. w .c) few;
-            flowLong = ap length l ∙ held-cells x (λ w. w .l) few;
-            outLong = ap length (e .outNow) ∙ patched-length _ 7 (7 * v .lines) out (omega (arith, v-lines, k .lines, k .outLong)) ∙ k .outLong;
+            done =
+                record {
+                  rows = rows-now;
+                  totals = totals-now;
+                  most = total-most;
+                  long = ap length (e .rowsNow) ∙ put-length _ rowCells (rowCells * v .lines) (d .rows) (omega (arith, v-lines, k .lines, k .done .long)) ∙ k .done .long;
+                };
+            long =
+                record {
+                  runs = k .long .runs;
+                  measured = k .long .measured;
+                  flags = k .long .flags;
+                  concentrations = ap length c ∙ held-cells x (λ w. w .c) few;
+                  flows = ap length l ∙ held-cells x (λ w. w .l) few;
+                };
             books =
                 record {
                   concHeld = c;

@@ -26,7 +26,7 @@ use Rattle.fills.proofs.Entries.{entries-length, line-at}
 use Rattle.fills.proofs.Filled.{filled-line, filled-rest}
 use Rattle.fills.proofs.States.{hours-all}
 use Rattle.fills.proofs.Alone.{cs-alone, ls-alone}
-use Rattle.walk.specs.Books.{plain, valuesAt}
+use Rattle.walk.specs.Books.{inCell, valuesAt}
 use Rattle.walk.proofs.Hours.{past-zero}
 
 -- ---- an hour of the line after step 1
@@ -81,14 +81,14 @@ replaced-state es ps h missing = refl
 replaced-state es ps h stopped = refl
 
 -- a slot by its state and the value of its hour
-slot-by : (f : Values → ℕ) (o : Slot Pair) → mapSlot f (mapSlot valuesOf o) ≡ slotIn (stateIn o) (f (plain o))
-unfolding mapSlot stateIn slotIn plain pick
+slot-by : (f : Values → ℕ) (o : Slot Pair) → mapSlot f (mapSlot valuesOf o) ≡ slotIn (stateIn o) (f (inCell o))
+unfolding mapSlot stateIn slotIn inCell pick
 slot-by f (valid p) = refl
 slot-by f missing = refl
 slot-by f stopped = refl
 
-stopped-zero : (f : Values → ℕ) → f zeroes ≡ 0 → (o : Slot Pair) → mapSlot f (mapSlot valuesOf o) ≡ stopped → f (plain o) ≡ 0
-unfolding mapSlot plain
+stopped-zero : (f : Values → ℕ) → f zeroes ≡ 0 → (o : Slot Pair) → mapSlot f (mapSlot valuesOf o) ≡ stopped → f (inCell o) ≡ 0
+unfolding mapSlot inCell
 stopped-zero f z (valid p) e = absurd (let t : _≡_ {A = ℕ} 0 1 = cc in omega arith)
 stopped-zero f z missing e = z
 stopped-zero f z stopped e = z
@@ -117,7 +117,7 @@ module _ (x : Line) (few : length (x .days) ≤ 92) (f : Values → ℕ) (zero-f
   unfolding slotAt slotIn valuesAt
   slot-is h l =
       ap₂ (λ (s v : ℕ). slotIn s v) (table-at (stateAt (runMasks (x .days)) (measuredMasks (x .days))) (N x) h 0 l) (table-at (λ k. f (valuesAt x k)) 2_208 h 0 (omega arith))
-      ∙ ap (λ (s : ℕ). slotIn s (f (plain (slotNow x h)))) (sym (replaced-state (x .enforcement) (x .plant) h (getD (slotsOf (x .days)) h stopped) ∙ state-slot (x .days) h))
+      ∙ ap (λ (s : ℕ). slotIn s (f (inCell (slotNow x h)))) (sym (replaced-state (x .enforcement) (x .plant) h (getD (slotsOf (x .days)) h stopped) ∙ state-slot (x .days) h))
       ∙ sym (slot-by f (slotNow x h))
 
   slots-are : slotsIn states values ≡ map (mapSlot f) (slots x)
@@ -169,8 +169,8 @@ module _ (x : Line) (few : length (x .days) ≤ 92) (f : Values → ℕ) (zero-f
       sym (take-append-drop (N x) values) ∙ ap₂ (λ (t u : List ℕ). t ++ u) front (rest-zero ∙ ap (λ (k : ℕ). replicate (2_208 - k) 0) (sym long))
 
 -- ---- both quantities
-entry-plain : (before after : List (Slot Values)) (o : Slot Pair) → entry (λ v. v) unfilled zeroes before (mapSlot valuesOf o) after ≡ plain o
-unfolding entry mapSlot plain unfilled
+entry-plain : (before after : List (Slot Values)) (o : Slot Pair) → entry (λ v. v) unfilled zeroes before (mapSlot valuesOf o) after ≡ inCell o
+unfolding entry mapSlot inCell unfilled
 entry-plain before after (valid p) = refl
 entry-plain before after missing = refl
 entry-plain before after stopped = refl

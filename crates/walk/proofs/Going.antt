@@ -1,74 +1,56 @@
 -- The loop of the walk: the code's state stands for some lines, from which the rules' walk goes on to the file's outcome. Assumes nothing.
-use mathlib.Core.Path.{_≡_, refl, _∙_, sym, ap, ap₂, subst}
+use mathlib.Core.Path.{_≡_, refl, _∙_, sym, ap, subst}
 use mathlib.Core.Bool.{Bool, true, false, true≢false, not}
 use mathlib.Core.List.{List, []}
-use Prim.Native.Nat.{ℕ, zero, suc, _+_, _-_, _<_, _≤_}
+use Prim.Native.Nat.{ℕ, zero, suc, _+_, _-_, _*_, _<_, _≤_}
 use native.Mathlib.Omega.{arith}
 use lib.ListN.{length, take, drop, replicate, getD, length-drop, length-replicate, getD-replicate}
 use lib.Seq.{take-all}
 use lib.Dec.{eqb}
 use borrow.Author.Tests.{lt-ltb, le-ltb, eq-eqb, ne-eqb, eqb-true, eqb-false}
+use Rattle.law.specs.Numbers.{mostHours, mostDays, mostCells, totalCells, mostGrams}
 use Rattle.law.specs.Words.{need, pick, sumOf, table}
 use Rattle.law.proofs.Tables.{table-is, table-length}
 use Rattle.rules.specs.declared.Fault.{Fault}
+use Rattle.rules.specs.declared.Record.{Record}
+use Rattle.rules.specs.declared.Record.the-variants.{Bad}
 use Rattle.rules.specs.declared.View.{View}
-use Rattle.rules.specs.Records.{Bad, IsHead, IsDay, IsEnforcement, IsPlant, IsBatch, IsEnd, Placed, dayOf, recordIn, sizeOf, upTo, recordsFrom, recordsOf}
-use Rattle.rules.specs.Records as rules
-use Rattle.rules.specs.Judge.{refuse, fine, first, judge, judgeHours}
-use Rattle.rules.specs.Row.{rowsOf, totalOf, cells, concentrationCells, flowCells}
+use Rattle.rules.specs.Records.{Placed, recordIn, sizeIn, recordsFrom, recordsOf}
+use Rattle.rules.specs.Judge.{refuse, fine, first, judgeRecord, judgeReadings, judge, atPlace}
+use Rattle.rules.specs.Row.{rowsOf, totalOf, totalsOf, cells, concentrationCells, flowCells}
 use Rattle.rules.specs.Walk.{Stand, Between, Inside, viewOf, runsOf, taken, ended, faultOf, walk, Refused, outcome}
-use Rattle.record.specs.declared.Record.{Record}
-use Rattle.record.specs.declared.Record.the-variants.{Bad as NoKind, OfHead, OfDay, OfEnforcement, OfPlant, OfBatch, OfEnd}
-use Rattle.record.specs.Flat.{flat, flatSize}
-use Rattle.faults.proofs.Laws.{Stands}
-use Rattle.record.proofs.Laws.{size-flat, size-some, record-whole}
-use Rattle.judge.specs.Flat.{judgeFlat}
-use Rattle.judge.proofs.Laws.{NoDay, flat-stands, judge-refused, judge-passed, judge-other}
+use Rattle.rules.proofs.Faults.{Stands, Within, stands-zero, at-place-number, at-place-refused}
+use Rattle.record.proofs.Laws.{size-some, record-whole}
+use Rattle.judge.proofs.Laws.{record-stands, record-within, readings-within, judge-refused, judge-passed, bad-refused}
 use Rattle.walk.specs.declared.books.Sums.{Sums}
 use Rattle.walk.specs.declared.take.Taken.{Taken}
 use Rattle.walk.specs.declared.turns.Progress.{Progress}
 use Rattle.walk.specs.declared.turns.Tally.{Tally}
-use Rattle.walk.specs.Views.{atStart, refusedAt, movedOn, foundOf}
-use Rattle.walk.specs.Books.{noRows, Kept}
-use Rattle.walk.specs.Walking.{whole, laterFault, Ready, SomeReady, Took, Going, Reached, Ended, WalkPromise}
+use Rattle.walk.specs.Views.{atStart, movedOn, foundOf}
+use Rattle.walk.specs.Books.{noRows, Open, inOpen, Done, inDone, Kept}
+use Rattle.walk.specs.Walking.{Ready, SomeReady, Took, Takes, Going, Reached, Ended, WalkPromise}
 use Rattle.walk.proofs.Cleared.{replicate-zero, cells-past}
 use Rattle.walk.proofs.Views.{view-start}
-use Rattle.walk.proofs.Takes.{whole-is, stands-zero}
 
 -- ---- the rules' walk, a record at a time
-judge-bad : (place : ℕ) (v : View) (runs : List ℕ) (r : rules.Record) → judge place v runs r .number ≡ 0 → r ≡ Bad → ⊥
-unfolding judge refuse
-judge-bad place v runs r e q = let z : judge place v runs Bad .number ≡ 0 = subst (λ (x : rules.Record). judge place v runs x .number ≡ 0) q e in omega arith
-
-past : (r : rules.Record) (more : List Placed) → (r ≡ Bad → ⊥) → upTo r more ≡ more
-unfolding upTo
-past Bad more n = absurd (n refl)
-past (IsHead h) more n = refl
-past (IsDay d) more n = refl
-past (IsEnforcement s) more n = refl
-past (IsPlant s) more n = refl
-past (IsBatch b) more n = refl
-past IsEnd more n = refl
-
 module _ (file : List ℕ) (at : ℕ) (stand : Stand) where
-  abbrev next : rules.Record
-  next = recordIn (drop at file)
+  -- the bytes from the record on, and what refuses it, counted from its start
+  abbrev here : List ℕ
+  here = drop at file
 
   abbrev verdict : Fault
-  verdict = judge at (viewOf stand) (runsOf stand) next
+  verdict = judge (viewOf stand) (runsOf stand) here
 
   walk-on : (most : ℕ) → at < length file → length file ≤ at + most → verdict .number ≡ 0
-      → (f : ℕ) × (walk file (recordsFrom most file at) stand ≡ walk file (recordsFrom f file (at + sizeOf next)) (taken stand next)) × (length file ≤ at + sizeOf next + f)
+      → (f : ℕ) × (walk file (recordsFrom most file at) stand ≡ walk file (recordsFrom f file (at + sizeIn here)) (taken stand here (recordIn here))) × (length file ≤ at + sizeIn here + f)
   unfolding walk recordsFrom need pick faultOf
   walk-on zero h n e = absurd (omega arith)
-  walk-on (suc f) h n e =
-      let bad = judge-bad at (viewOf stand) (runsOf stand) next e in
-      (f, rw (lt-ltb at (length file) h, eq-eqb _ 0 e, past next _ bad), omega (arith, size-some next bad))
+  walk-on (suc f) h n e = (f, rw (lt-ltb at (length file) h, eq-eqb _ 0 (at-place-number at verdict ∙ e)), omega (arith, size-some here))
 
-  walk-refused : (most : ℕ) → at < length file → length file ≤ at + most → (verdict .number ≡ 0 → ⊥) → walk file (recordsFrom most file at) stand ≡ Refused verdict
+  walk-refused : (most : ℕ) → at < length file → length file ≤ at + most → (verdict .number ≡ 0 → ⊥) → walk file (recordsFrom most file at) stand ≡ Refused (atPlace at verdict)
   unfolding walk recordsFrom need pick faultOf
   walk-refused zero h n e = absurd (omega arith)
-  walk-refused (suc f) h n e = rw (lt-ltb at (length file) h, ne-eqb _ 0 e)
+  walk-refused (suc f) h n e = rw (lt-ltb at (length file) h, ne-eqb _ 0 (λ z. e (sym (at-place-number at verdict) ∙ z)))
 
   walk-ended : (most : ℕ) → length file ≤ at → walk file (recordsFrom most file at) stand ≡ ended file stand
   unfolding walk recordsFrom need
@@ -79,35 +61,38 @@ module _ (file : List ℕ) (at : ℕ) (stand : Stand) where
 pub zeros : (n : ℕ) → table {A = ℕ} (λ h. 0) n ≡ replicate n 0
 zeros n = sym (table-is (λ h. 0) n 0 (replicate n 0) (length-replicate n 0) (λ k l. getD-replicate n k 0 0 l))
 
-pub reached-start : (file runs measured flags conc flow out : List ℕ) (p : Progress) → length runs ≡ 92 → length measured ≡ 92 → flags ≡ replicate 2_208 0 → out ≡ noRows
-    → conc ≡ table (λ h. 0) 2_208 → flow ≡ table (λ h. 0) 2_208 → p ≡ atStart → Reached file p runs measured flags conc flow out
-unfolding fine outcome recordsOf rowsOf totalOf sumOf concentrationCells flowCells cells noRows
-reached-start file runs measured flags conc flow out p rl ml g ol c f q =
-    let kept : Kept (Between []) (atStart .view) (atStart .sums) runs measured flags conc flow out =
+pub reached-start : (file runs measured flags conc flow rows totals : List ℕ) (p : Progress) → length runs ≡ mostDays → length measured ≡ mostDays → flags ≡ replicate mostHours 0
+    → rows ≡ noRows → totals ≡ replicate totalCells 0
+    → conc ≡ table (λ h. 0) mostHours → flow ≡ table (λ h. 0) mostHours → p ≡ atStart → Reached file p (inOpen runs measured flags conc flow) (inDone rows totals)
+unfolding fine outcome recordsOf rowsOf totalsOf totalOf sumOf concentrationCells flowCells cells noRows
+reached-start file runs measured flags conc flow rows totals p rl ml g ol tl c f q =
+    let kept : Kept (Between []) (atStart .view) (atStart .sums) (inOpen runs measured flags conc flow) (inDone rows totals) =
     record {
       view = view-start;
       lines = omega arith;
-      rows = ol;
-      total1 = refl;
-      total2 = refl;
-      total3 = refl;
-      most1 = omega arith;
-      most2 = omega arith;
-      most3 = omega arith;
-      runsLong = rl;
-      measuredLong = ml;
-      flagsLong = ap length g ∙ length-replicate {A = ℕ} 2_208 0;
-      concLong = ap length c ∙ table-length (λ h. 0) 2_208;
-      flowLong = ap length f ∙ table-length (λ h. 0) 2_208;
-      outLong = ap length ol ∙ length-replicate {A = ℕ} 336 0;
+      done =
+          record {
+            rows = ol;
+            totals = tl ∙ sym (zeros totalCells);
+            most = λ i. omega (arith, ap (λ (t : List ℕ). getD t i 0) tl ∙ replicate-zero totalCells i);
+            long = ap length ol ∙ length-replicate {A = ℕ} mostCells 0;
+          };
+      long =
+          record {
+            runs = rl;
+            measured = ml;
+            flags = ap length g ∙ length-replicate {A = ℕ} mostHours 0;
+            concentrations = ap length c ∙ table-length (λ h. 0) mostHours;
+            flows = ap length f ∙ table-length (λ h. 0) mostHours;
+          };
       books =
           record {
-            concHeld = c ∙ zeros 2_208;
-            flowHeld = f ∙ zeros 2_208;
+            concHeld = c ∙ zeros mostHours;
+            flowHeld = f ∙ zeros mostHours;
             usedMost = omega arith;
-            flagsPast = λ h l. ap (λ (t : List ℕ). getD t h 0) g ∙ replicate-zero 2_208 h;
-            concPast = λ h l. ap (λ (t : List ℕ). getD t h 0) (c ∙ zeros 2_208) ∙ cells-past [] 0 h (omega arith) l;
-            flowPast = λ h l. ap (λ (t : List ℕ). getD t h 0) (f ∙ zeros 2_208) ∙ cells-past [] 0 h (omega arith) l;
+            flagsPast = λ h l. ap (λ (t : List ℕ). getD t h 0) g ∙ replicate-zero mostHours h;
+            concPast = λ h l. ap (λ (t : List ℕ). getD t h 0) (c ∙ zeros mostHours) ∙ cells-past [] 0 h (omega arith) l;
+            flowPast = λ h l. ap (λ (t : List ℕ). getD t h 0) (f ∙ zeros mostHours) ∙ cells-past [] 0 h (omega arith) l;
           };
     } in
     rw q (record {
@@ -118,112 +103,101 @@ reached-start file runs measured flags conc flow out p rl ml g ol c f q =
 
 -- ---- a record is judged
 -- the run masks that are lent to the judge, and the bytes of the record
-lent-stand : (stand : Stand) (v : View) (s : Sums) (runs measured flags conc flow out : List ℕ) → Kept stand v s runs measured flags conc flow out → take (v .days) runs ≡ runsOf stand
+lent-stand : (stand : Stand) (v : View) (s : Sums) (o : Open) (d : Done) → Kept stand v s o d → take (v .days) (o .runs) ≡ runsOf stand
 unfolding viewOf runsOf
-lent-stand (Between done) v s runs measured flags conc flow out k = ap (λ (w : View). take (w .days) runs) (k .view)
-lent-stand (Inside x done) v s runs measured flags conc flow out k = ap (λ (w : View). take (w .days) runs) (k .view) ∙ k .books .masks .runsKept
+lent-stand (Between done) v s o d k = ap (λ (w : View). take (w .days) (o .runs)) (k .view)
+lent-stand (Inside x done) v s o d k = ap (λ (w : View). take (w .days) (o .runs)) (k .view) ∙ k .books .masks .runsKept
 
 lent-bytes : (file : List ℕ) (at : ℕ) → take (length file - at) (drop at file) ≡ drop at file
 lent-bytes file at = take-all (length file - at) (drop at file) (let l : length (drop at file) ≤ length file - at = omega (arith, length-drop at file) in l)
 
--- what is judged later is all that is left to judge
-later-judge : (at : ℕ) (bytes : List ℕ) (v : View) (runs : List ℕ) (r : Record) (f : Fault) → r ≡ flat (recordIn bytes) → f ≡ judgeFlat at v runs r → f ≡ fine
-    → laterFault at bytes r ≡ judge at v runs (recordIn bytes)
-unfolding laterFault fine NoDay
-later-judge at bytes v runs NoKind f e j z = sym z ∙ judge-other at v runs (recordIn bytes) NoKind f e tt j
-later-judge at bytes v runs (OfHead h) f e j z = sym z ∙ judge-other at v runs (recordIn bytes) (OfHead h) f e tt j
-later-judge at bytes v runs (OfDay d) f e j z = judge-passed at v runs bytes d (OfDay d) f (judgeHours at (dayOf bytes)) e refl j (ap (λ (x : Fault). x .number) z) refl
-later-judge at bytes v runs (OfEnforcement t) f e j z = sym z ∙ judge-other at v runs (recordIn bytes) (OfEnforcement t) f e tt j
-later-judge at bytes v runs (OfPlant t) f e j z = sym z ∙ judge-other at v runs (recordIn bytes) (OfPlant t) f e tt j
-later-judge at bytes v runs (OfBatch b) f e j z = sym z ∙ judge-other at v runs (recordIn bytes) (OfBatch b) f e tt j
-later-judge at bytes v runs OfEnd f e j z = sym z ∙ judge-other at v runs (recordIn bytes) OfEnd f e tt j
-
-module _ (file : List ℕ) (v : View) (s : Sums) (at : ℕ) (runs measured flags conc flow out : List ℕ) (g : Going file v s at runs measured flags conc flow out) (more : at < length file) where
+module _ (file : List ℕ) (v : View) (s : Sums) (at : ℕ) (o : Open) (d : Done) (g : Going file v s at o d) (more : at < length file) where
   abbrev bytes : List ℕ
   bytes = take (length file - at) (drop at file)
 
-  abbrev here : rules.Record
-  here = next file at (g .stand)
+  -- what refuses the record where the walk stands
+  found-here : judge v (runsOf (g .stand)) bytes ≡ verdict file at (g .stand)
+  found-here = ap (λ (w : View). judge w (runsOf (g .stand)) bytes) (g .kept .view) ∙ ap (judge (viewOf (g .stand)) (runsOf (g .stand))) (lent-bytes file at)
 
-  module _ (r : Record) (read : r ≡ flat (recordIn bytes)) (f : Fault) (judged : f ≡ judgeFlat at v (take (v .days) runs) r) where
-    judged-here : f ≡ judgeFlat at v (runsOf (g .stand)) r
-    judged-here = judged ∙ ap (λ (l : List ℕ). judgeFlat at v l r) (lent-stand (g .stand) v s runs measured flags conc flow out (g .kept))
+  -- a record that is refused: the walk stops there, with nothing more to read
+  stops : (t : Taken) (o' : Open) (d' : Done) → t .fault ≡ judge v (runsOf (g .stand)) bytes → (t .fault .number ≡ 0 → ⊥)
+      → Reached file (record { fault = atPlace at (t .fault); at = length file; view = t .view; sums = t .sums }) o' d' × (at < length file)
+  stops t o' d' e n =
+      let q = e ∙ found-here in
+      let m : verdict file at (g .stand) .number ≡ 0 → ⊥ = λ z. n (ap (λ (y : Fault). y .number) q ∙ z) in (
+        record {
+          refuses = λ _. sym (g .rest) ∙ walk-refused file at (g .stand) (g .most) more (g .enough) m ∙ ap (λ (y : Fault). Refused (atPlace at y)) (sym q);
+          reads = λ l. absurd (omega arith);
+          goes = λ z. absurd (n (sym (at-place-number at (t .fault)) ∙ z));
+        },
+        more,
+      )
 
-    -- the fault of the record as it stands in the file
-    in-file : (x : Fault) → x ≡ judge at v (runsOf (g .stand)) (recordIn bytes) → x ≡ verdict file at (g .stand)
-    in-file x e = e ∙ ap₂ (λ (w : View) (l : List ℕ). judge at w (runsOf (g .stand)) (recordIn l)) (g .kept .view) (lent-bytes file at)
+  -- a fault within the record lies within the file
+  in-file : (f : Fault) → Within (length bytes) f → at + f .place ≤ length file
+  in-file f w = omega (arith, w, ap length (lent-bytes file at), length-drop at file)
 
-    refused-by : (x : Fault) → x ≡ judge at v (runsOf (g .stand)) (recordIn bytes) → (x .number ≡ 0 → ⊥) → outcome file ≡ Refused x
-    refused-by x e n =
-        let q = in-file x e in
-        sym (g .rest) ∙ walk-refused file at (g .stand) (g .most) more (g .enough) (λ z. n (ap (λ (y : Fault). y .number) q ∙ z)) ∙ ap Refused (sym q)
+  module _ (r : Record) (read : r ≡ recordIn bytes) (f : Fault) (judged : f ≡ judgeRecord v (take (v .days) (o .runs)) r) where
+    judged-here : f ≡ judgeRecord v (runsOf (g .stand)) r
+    judged-here = judged ∙ ap (λ (l : List ℕ). judgeRecord v l r) (lent-stand (g .stand) v s o d (g .kept))
 
-    pub step-refused : (f .number ≡ 0 → ⊥) → Reached file (refusedAt f (length file) v s) runs measured flags conc flow out × (at < length file)
-    step-refused n = (
-      record {
-        refuses = λ _. refused-by f (judge-refused at v (runsOf (g .stand)) (recordIn bytes) r f read judged-here n) n;
-        reads = λ l. absurd (omega arith);
-        goes = λ z. absurd (n z);
-      },
-      more,
-    )
+    pub refused-within : at + f .place ≤ length file
+    refused-within = in-file f (subst (Within (length bytes)) (sym judged-here) (record-within (length bytes) v (runsOf (g .stand)) r))
+
+    pub step-refused : (f .number ≡ 0 → ⊥) → (q : Progress) → q ≡ movedOn (record { fault = f; view = v; sums = s }) at (length file) (length file) → Reached file q o d × (at < q .at)
+    unfolding pick
+    step-refused n q e =
+        rw (e, ne-eqb (f .number) 0 n) (stops (record { fault = f; view = v; sums = s }) o d (judge-refused v (runsOf (g .stand)) bytes r read f judged-here n) n)
 
     module _ (zero-f : f .number ≡ 0) where
-      is-fine : f ≡ fine
-      is-fine = stands-zero f (subst Stands (sym judged-here) (flat-stands at v (runsOf (g .stand)) r)) zero-f
+      is-fine : judgeRecord v (runsOf (g .stand)) r ≡ fine
+      is-fine = stands-zero _ (record-stands v (runsOf (g .stand)) r) (ap (λ (x : Fault). x .number) (sym judged-here) ∙ zero-f)
 
-      pub ready : SomeReady at bytes r v s runs measured flags conc flow out
-      ready = record { stand = g .stand; ready = record { kept = g .kept; read = read; passed = sym judged-here ∙ is-fine } }
+      pub ready : SomeReady bytes r v s o d
+      ready = record { stand = g .stand; ready = record { kept = g .kept; read = read; passed = is-fine } }
 
-      size-is : flatSize r ≡ sizeOf here
-      size-is = ap flatSize read ∙ size-flat (recordIn bytes) ∙ ap (λ (l : List ℕ). sizeOf (recordIn l)) (lent-bytes file at)
+      not-bad : recordIn bytes ≡ Bad → ⊥
+      not-bad q = bad-refused v (runsOf (g .stand)) (ap (judgeRecord v (runsOf (g .stand))) (sym q ∙ sym read) ∙ is-fine)
 
-      pub fits : at + flatSize r ≤ length file
-      fits = omega (arith, size-is, record-whole (drop at file), length-drop at file)
+      pub fits : at + sizeIn bytes ≤ length file
+      fits = omega (arith, record-whole bytes not-bad, ap length (lent-bytes file at), length-drop at file)
 
-      module _ (t : Taken) (runs' measured' flags' conc' flow' out' : List ℕ)
-          (took : (stand : Stand) → Ready stand at bytes r v s runs measured flags conc flow out → Took stand at bytes r t runs' measured' flags' conc' flow' out')
-        where
-          mine : Took (g .stand) at bytes r t runs' measured' flags' conc' flow' out'
-          unfolding ready
-          mine = took (g .stand) (ready .ready)
+      module _ (t : Taken) (o' : Open) (d' : Done) (takes : Takes bytes r v s o d o' d' t) where
+        mine : Took (g .stand) bytes r t o' d'
+        unfolding ready
+        mine = takes (g .stand) (ready .ready)
 
-          later : t .fault ≡ judge at v (runsOf (g .stand)) (recordIn bytes)
-          later = mine .faults ∙ later-judge at bytes v (runsOf (g .stand)) r f read judged-here is-fine
+        pub taken-within : at + t .fault .place ≤ length file
+        taken-within = in-file (t .fault) (subst (Within (length bytes)) (sym (mine .faults)) (readings-within (length bytes) bytes r))
 
-          passed : t .fault .number ≡ 0 → verdict file at (g .stand) .number ≡ 0
-          passed z = sym (ap (λ (y : Fault). y .number) (in-file (t .fault) later)) ∙ z
+        later : t .fault ≡ judge v (runsOf (g .stand)) bytes
+        later = mine .faults ∙ judge-passed v (runsOf (g .stand)) bytes r read f judged-here zero-f
 
-          goes : t .fault .number ≡ 0 → Going file (t .view) (t .sums) (at + flatSize r) runs' measured' flags' conc' flow' out'
-          goes z =
-              let on = walk-on file at (g .stand) (g .most) more (g .enough) (passed z) in
-              let same : whole bytes r ≡ here = whole-is bytes r read ∙ ap recordIn (lent-bytes file at) in
-              record {
-                stand = taken (g .stand) here;
-                most = on .0;
-                kept = subst (λ (x : rules.Record). Kept (taken (g .stand) x) (t .view) (t .sums) runs' measured' flags' conc' flow' out') same (mine .stays z);
-                within = fits;
-                enough = omega (arith, on .2, size-is);
-                rest = ap (λ (n : ℕ). walk file (recordsFrom (on .0) file (at + n)) (taken (g .stand) here)) size-is ∙ sym (on .1) ∙ g .rest;
-              }
+        goes : t .fault .number ≡ 0 → Going file (t .view) (t .sums) (at + sizeIn bytes) o' d'
+        goes z =
+            let here-fine = ap (λ (y : Fault). y .number) (sym (later ∙ found-here)) ∙ z in
+            let on = walk-on file at (g .stand) (g .most) more (g .enough) here-fine in
+            let same = lent-bytes file at in
+            record {
+              stand = taken (g .stand) (here file at (g .stand)) (recordIn (here file at (g .stand)));
+              most = on .0;
+              kept = subst (λ (b : List ℕ). Kept (taken (g .stand) b (recordIn b)) (t .view) (t .sums) o' d') same (subst (λ (x : Record). Kept (taken (g .stand) bytes x) (t .view) (t .sums) o' d') read (mine .stays z));
+              within = fits;
+              enough = omega (arith, on .2, ap sizeIn same);
+              rest = ap (λ (b : List ℕ). walk file (recordsFrom (on .0) file (at + sizeIn b)) (taken (g .stand) (drop at file) (recordIn (drop at file)))) same ∙ sym (on .1) ∙ g .rest;
+            }
 
-          moves : (b : Bool) → eqb (t .fault .number) 0 ≡ b
-              → Reached file (record { fault = t .fault; at = pick b (at + flatSize r) (length file); view = t .view; sums = t .sums }) runs' measured' flags' conc' flow' out'
-              × (at < pick b (at + flatSize r) (length file))
-          unfolding pick
-          moves true e =
-              let z = eqb-true (t .fault .number) 0 e in (
-                record { refuses = λ n. absurd (n z); reads = λ _. z; goes = λ _. goes z },
-                omega (arith, size-is, size-some here (judge-bad at (viewOf (g .stand)) (runsOf (g .stand)) here (passed z))),
-              )
-          moves false e =
-              let n = eqb-false (t .fault .number) 0 e in (
-                record { refuses = λ _. refused-by (t .fault) later n; reads = λ l. absurd (omega arith); goes = λ z. absurd (n z) },
-                more,
-              )
+        moves : (b : Bool) → eqb (t .fault .number) 0 ≡ b
+            → Reached file (record { fault = atPlace at (t .fault); at = pick b (at + sizeIn bytes) (length file); view = t .view; sums = t .sums }) o' d' × (at < pick b (at + sizeIn bytes) (length file))
+        unfolding pick
+        moves true e =
+            let z = eqb-true (t .fault .number) 0 e in
+            let p = at-place-number at (t .fault) ∙ z in
+            (record { refuses = λ n. absurd (n p); reads = λ _. p; goes = λ _. goes z }, omega (arith, size-some bytes))
+        moves false e = stops t o' d' later (eqb-false (t .fault .number) 0 e)
 
-          pub step-on : (n : ℕ) (q : Progress) → n ≡ flatSize r → q ≡ movedOn t (at + n) (length file) → Reached file q runs' measured' flags' conc' flow' out' × (at < q .at)
-          step-on n q e m = rw (m, e) (moves (eqb (t .fault .number) 0) refl)
+        pub step-on : (n : ℕ) (q : Progress) → n ≡ sizeIn bytes → q ≡ movedOn t at (at + n) (length file) → Reached file q o' d' × (at < q .at)
+        step-on n q e m = rw (m, e) (moves (eqb (t .fault .number) 0) refl)
 
 -- ---- the file's end
 open-case : (file : List ℕ) (stand : Stand) → viewOf stand .inside ≡ true → ended file stand ≡ Refused (refuse 2 (length file))
@@ -231,37 +205,34 @@ unfolding viewOf ended
 open-case file (Between done) e = absurd (true≢false (sym e))
 open-case file (Inside x done) e = refl
 
-module _ (file : List ℕ) (p : Progress) (runs measured flags conc flow out : List ℕ) (h : Reached file p runs measured flags conc flow out) (over : length file ≤ p .at) where
+module _ (file : List ℕ) (p : Progress) (o : Open) (d : Done) (h : Reached file p o d) (over : length file ≤ p .at) where
   module _ (zero-f : p .fault .number ≡ 0) where
-    g : Going file (p .view) (p .sums) (p .at) runs measured flags conc flow out
+    g : Going file (p .view) (p .sums) (p .at) o d
     g = h .goes zero-f
 
     at-end : outcome file ≡ ended file (g .stand)
     at-end = sym (g .rest) ∙ walk-ended file (p .at) (g .stand) (g .most) over
 
-    closed-by : (stand : Stand) → stand ≡ g .stand → p .view .inside ≡ false → (w : Tally) → w .lines ≡ p .view .lines → w .total1 ≡ p .sums .total1 → w .total2 ≡ p .sums .total2 → w .total3 ≡ p .sums .total3
-        → Ended file out conc flow w
+    closed-by : (stand : Stand) → stand ≡ g .stand → p .view .inside ≡ false → (w : Tally) → w .lines ≡ p .view .lines → Ended file d (o .concentrations) (o .flows) w
     unfolding viewOf ended
-    closed-by (Between done) q e w l a b c =
-        let k = subst (λ (x : Stand). Kept x (p .view) (p .sums) runs measured flags conc flow out) (sym q) (g .kept) in
+    closed-by (Between done) q e w l =
+        let k = subst (λ (x : Stand). Kept x (p .view) (p .sums) o d) (sym q) (g .kept) in
         record {
           lines = done;
           accepted = at-end ∙ ap (ended file) (sym q);
           count = l ∙ ap (λ (x : View). x .lines) (k .view);
           most = k .lines;
-          rows = k .rows;
-          total1 = a ∙ k .total1;
-          total2 = b ∙ k .total2;
-          total3 = c ∙ k .total3;
+          rows = k .done .rows;
+          totals = k .done .totals;
           concHeld = k .books .concHeld;
           flowHeld = k .books .flowHeld;
         }
-    closed-by (Inside x done) q e w l a b c = absurd (true≢false (sym (ap (λ (x : View). x .inside) (g .kept .view ∙ ap viewOf (sym q))) ∙ e))
+    closed-by (Inside x done) q e w l = absurd (true≢false (sym (ap (λ (x : View). x .inside) (g .kept .view ∙ ap viewOf (sym q))) ∙ e))
 
   abbrev foundBy : Bool → Bool → Tally
-  foundBy a b = record { fault = need (p .fault) a (need (refuse 2 (length file)) (not b) fine); lines = p .view .lines; total1 = p .sums .total1; total2 = p .sums .total2; total3 = p .sums .total3 }
+  foundBy a b = record { fault = need (p .fault) a (need (refuse 2 (length file)) (not b) fine); lines = p .view .lines }
 
-  ends-by : (a b : Bool) → eqb (p .fault .number) 0 ≡ a → p .view .inside ≡ b → WalkPromise file out conc flow (foundBy a b)
+  ends-by : (a b : Bool) → eqb (p .fault .number) 0 ≡ a → p .view .inside ≡ b → WalkPromise file d (o .concentrations) (o .flows) (foundBy a b)
   unfolding need fine refuse
   ends-by false b e i = let n = eqb-false (p .fault .number) 0 e in record { refuses = λ _. h .refuses n; ends = λ z. absurd (n z) }
   ends-by true true e i =
@@ -272,8 +243,8 @@ module _ (file : List ℕ) (p : Progress) (runs measured flags conc flow out : L
       }
   ends-by true false e i =
       let z = eqb-true (p .fault .number) 0 e in
-      record { refuses = λ n. absurd (n refl); ends = λ _. closed-by z (g z .stand) refl i (foundBy true false) refl refl refl refl }
+      record { refuses = λ n. absurd (n refl); ends = λ _. closed-by z (g z .stand) refl i (foundBy true false) refl }
 
-  pub walk-promise : (w : Tally) → w ≡ foundOf p (length file) → WalkPromise file out conc flow w
+  pub walk-promise : (w : Tally) → w ≡ foundOf p (length file) → WalkPromise file d (o .concentrations) (o .flows) w
   unfolding first
   walk-promise w e = rw e (ends-by (eqb (p .fault .number) 0) (p .view .inside) refl refl)

@@ -24,12 +24,12 @@ use Rattle.bits.specs.State.{stateOf}
 use Rattle.hours.specs.States.{stateAt}
 use Rattle.hours.proofs.Days.{length-slots, slot-past}
 use Rattle.hours.proofs.Laws.{slotIn, pairIs, slot-state, slot-valid}
-use Rattle.walk.specs.Books.{plain, valuesAt}
+use Rattle.walk.specs.Books.{inCell, valuesAt}
 
 -- ---- past the days of a line nothing stands
 pub past-zero : (x : Line) (h : ℕ) → 24 * length (x .days) ≤ h → valuesAt x h ≡ zeroes
-unfolding valuesAt replaced plain
-past-zero x h l = ap (λ (o : Slot Pair). plain (replaced (x .enforcement) (x .plant) h o)) (slot-past (x .days) h l)
+unfolding valuesAt replaced inCell
+past-zero x h l = ap (λ (o : Slot Pair). inCell (replaced (x .enforcement) (x .plant) h o)) (slot-past (x .days) h l)
 
 pub begun-zero : (hd : Head) (h : ℕ) → valuesAt (begun hd) h ≡ zeroes
 unfolding begun
@@ -44,17 +44,17 @@ unreplaced es ps h stopped e q = refl
 
 -- ---- a day more: the hours before it stay, and its own hold what it measured
 module _ (x : Line) (d : Day) (e : x .enforcement ≡ []) (q : x .plant ≡ []) where
-  day-slot : (h : ℕ) (o : Slot Pair) → getD (slotsOf (d ∷ x .days)) h stopped ≡ o → valuesAt (withDay x d) h ≡ plain o
+  day-slot : (h : ℕ) (o : Slot Pair) → getD (slotsOf (d ∷ x .days)) h stopped ≡ o → valuesAt (withDay x d) h ≡ inCell o
   unfolding valuesAt withDay
-  day-slot h o s = ap (λ (t : Slot Pair). plain (replaced (x .enforcement) (x .plant) h t)) s ∙ ap plain (unreplaced (x .enforcement) (x .plant) h o e q)
+  day-slot h o s = ap (λ (t : Slot Pair). inCell (replaced (x .enforcement) (x .plant) h t)) s ∙ ap inCell (unreplaced (x .enforcement) (x .plant) h o e q)
 
   pub day-before : (h : ℕ) → h < 24 * length (x .days) → valuesAt (withDay x d) h ≡ valuesAt x h
   unfolding slotsOf valuesAt
   day-before h l =
       day-slot h (getD (slotsOf (x .days)) h stopped) (List·getD-append (slotsOf (x .days)) (table (slotOf d) 24) stopped h (omega (arith, length-slots (x .days))))
-      ∙ ap plain (sym (unreplaced (x .enforcement) (x .plant) h (getD (slotsOf (x .days)) h stopped) e q))
+      ∙ ap inCell (sym (unreplaced (x .enforcement) (x .plant) h (getD (slotsOf (x .days)) h stopped) e q))
 
-  pub day-own : (k : ℕ) → k < 24 → valuesAt (withDay x d) (24 * length (x .days) + k) ≡ plain (slotOf d k)
+  pub day-own : (k : ℕ) → k < 24 → valuesAt (withDay x d) (24 * length (x .days) + k) ≡ inCell (slotOf d k)
   unfolding slotsOf
   day-own k l =
       day-slot (24 * length (x .days) + k) (slotOf d k)
@@ -107,29 +107,29 @@ module _ (x : Line) (s : Survey) (h : ℕ) where
 
   pub enforcement-other : (h ≡ s .hour → ⊥) → valuesAt (withEnforcement x s) h ≡ valuesAt x h
   unfolding valuesAt withEnforcement
-  enforcement-other n = ap plain (replaced-same _ _ _ _ h (λ p. survey-other h s (x .enforcement) (surveyAt h (x .plant) (valid p)) n) slotAt)
+  enforcement-other n = ap inCell (replaced-same _ _ _ _ h (λ p. survey-other h s (x .enforcement) (surveyAt h (x .plant) (valid p)) n) slotAt)
 
   pub plant-other : (h ≡ s .hour → ⊥) → valuesAt (withPlant x s) h ≡ valuesAt x h
   unfolding valuesAt withPlant
-  plant-other n = ap plain (replaced-same _ _ _ _ h (λ p. ap (surveyAt h (x .enforcement)) (survey-other h s (x .plant) (valid p) n)) slotAt)
+  plant-other n = ap inCell (replaced-same _ _ _ _ h (λ p. ap (surveyAt h (x .enforcement)) (survey-other h s (x .plant) (valid p) n)) slotAt)
 
   pub plant-second : hasSurvey h (x .enforcement) ≡ true → valuesAt (withPlant x s) h ≡ valuesAt x h
   unfolding valuesAt withPlant
-  plant-second t = ap plain (replaced-same _ _ _ _ h (λ p. survey-covered h (x .enforcement) (surveyAt h (s ∷ x .plant) (valid p)) (surveyAt h (x .plant) (valid p)) t) slotAt)
+  plant-second t = ap inCell (replaced-same _ _ _ _ h (λ p. survey-covered h (x .enforcement) (surveyAt h (s ∷ x .plant) (valid p)) (surveyAt h (x .plant) (valid p)) t) slotAt)
 
   -- its own hour, measured
   module _ (p : Pair) (e : slotAt ≡ valid p) (o : h ≡ s .hour) where
     pub enforcement-own : valuesAt (withEnforcement x s) h ≡ valuesOf (s .pair)
-    unfolding valuesAt withEnforcement replaced plain
+    unfolding valuesAt withEnforcement replaced inCell
     enforcement-own =
-        ap (λ (t : Slot Pair). plain (replaced (s ∷ x .enforcement) (x .plant) h t)) e
-        ∙ ap plain (survey-own h s (x .enforcement) (surveyAt h (x .plant) (valid p)) o)
+        ap (λ (t : Slot Pair). inCell (replaced (s ∷ x .enforcement) (x .plant) h t)) e
+        ∙ ap inCell (survey-own h s (x .enforcement) (surveyAt h (x .plant) (valid p)) o)
 
     pub plant-own : hasSurvey h (x .enforcement) ≡ false → valuesAt (withPlant x s) h ≡ valuesOf (s .pair)
-    unfolding valuesAt withPlant replaced plain
+    unfolding valuesAt withPlant replaced inCell
     plant-own t =
-        ap (λ (t : Slot Pair). plain (replaced (x .enforcement) (s ∷ x .plant) h t)) e
-        ∙ ap plain (survey-free h (x .enforcement) (surveyAt h (s ∷ x .plant) (valid p)) t ∙ survey-own h s (x .plant) (valid p) o)
+        ap (λ (t : Slot Pair). inCell (replaced (x .enforcement) (s ∷ x .plant) h t)) e
+        ∙ ap inCell (survey-free h (x .enforcement) (surveyAt h (s ∷ x .plant) (valid p)) t ∙ survey-own h s (x .plant) (valid p) o)
 
 -- ---- a measured bit is state 2, and without it nothing stands
 state-measured : (runs measured : List ℕ) (h : ℕ) → runsAt measured h ≡ true → stateAt runs measured h ≡ 2
@@ -143,14 +143,14 @@ state-other runs measured h t = rw t
 pub measured-slot : (ds : List Day) (h : ℕ) → runsAt (measuredMasks ds) h ≡ true → getD (slotsOf ds) h stopped ≡ valid (pairIs ds h)
 measured-slot ds h t = slot-valid ds h (state-measured (runMasks ds) (measuredMasks ds) h t)
 
-nothing-by : (es ps : List Survey) (h : ℕ) (p : Pair) (b : Bool) → plain (replaced es ps h (slotIn (pick b 1 0) p)) ≡ zeroes
-unfolding slotIn pick replaced plain
+nothing-by : (es ps : List Survey) (h : ℕ) (p : Pair) (b : Bool) → inCell (replaced es ps h (slotIn (pick b 1 0) p)) ≡ zeroes
+unfolding slotIn pick replaced inCell
 nothing-by es ps h p true = refl
 nothing-by es ps h p false = refl
 
 pub unmeasured : (x : Line) (h : ℕ) → runsAt (measuredMasks (x .days)) h ≡ false → valuesAt x h ≡ zeroes
 unfolding valuesAt
 unmeasured x h t =
-    ap (λ (o : Slot Pair). plain (replaced (x .enforcement) (x .plant) h o)) (slot-state (x .days) h)
-    ∙ ap (λ (n : ℕ). plain (replaced (x .enforcement) (x .plant) h (slotIn n (pairIs (x .days) h)))) (state-other (runMasks (x .days)) (measuredMasks (x .days)) h t)
+    ap (λ (o : Slot Pair). inCell (replaced (x .enforcement) (x .plant) h o)) (slot-state (x .days) h)
+    ∙ ap (λ (n : ℕ). inCell (replaced (x .enforcement) (x .plant) h (slotIn n (pairIs (x .days) h)))) (state-other (runMasks (x .days)) (measuredMasks (x .days)) h t)
     ∙ nothing-by (x .enforcement) (x .plant) h (pairIs (x .days) h) (runsAt (runMasks (x .days)) h)

@@ -7,6 +7,7 @@ use native.Mathlib.Omega.{arith}
 use lib.ListN.{length, drop, length-replicate}
 use lib.Dec.{leb}
 use borrow.Author.Tests.{le-leb, lt-leb, leb-true, leb-false, not-true, not-false}
+use Rattle.law.specs.Numbers.{mostHours, rowCells, mostCells}
 use Rattle.law.specs.Words.{need, over}
 use Rattle.rules.specs.declared.Answer.{Answer}
 use Rattle.rules.specs.Judge.{refuse}
@@ -14,30 +15,30 @@ use Rattle.rules.specs.Row.{cells}
 use Rattle.rules.specs.Account.{acceptance, rowsFit, workFits, answerFrom, answerOf, rowsFrom, rowsAfter, cellsFrom, workAfter, Promise}
 use Rattle.walk.specs.declared.turns.Tally.{Tally}
 use Rattle.walk.specs.declared.Walked.{Walked}
-use Rattle.walk.specs.Books.{noRows}
+use Rattle.walk.specs.Books.{noRows, Done}
 use Rattle.walk.specs.Walking.{stopped, WalkPromise, Settled}
 use Rattle.walk.proofs.Cleared.{zeroed}
 use Rattle.walk.proofs.Going.{zeros}
 
 -- ---- 9: the work slices
-fits-work : (c f : ℕ) → 2_208 ≤ c → 2_208 ≤ f → workFits c f ≡ true
+fits-work : (c f : ℕ) → mostHours ≤ c → mostHours ≤ f → workFits c f ≡ true
 unfolding workFits
-fits-work c f a b = rw (le-leb 2_208 c a, le-leb 2_208 f b)
+fits-work c f a b = rw (le-leb mostHours c a, le-leb mostHours f b)
 
-pub short-conc : (c f : ℕ) → c < 2_208 → workFits c f ≡ false
+pub short-conc : (c f : ℕ) → c < mostHours → workFits c f ≡ false
 unfolding workFits
-short-conc c f a = rw (lt-leb 2_208 c a)
+short-conc c f a = rw (lt-leb mostHours c a)
 
-pub short-flow : (c f : ℕ) → 2_208 ≤ c → f < 2_208 → workFits c f ≡ false
+pub short-flow : (c f : ℕ) → mostHours ≤ c → f < mostHours → workFits c f ≡ false
 unfolding workFits
-short-flow c f a b = rw (le-leb 2_208 c a, lt-leb 2_208 f b)
+short-flow c f a b = rw (le-leb mostHours c a, lt-leb mostHours f b)
 
 -- a slice is held or not, as the test says
-pub not-held : (c : ℕ) (t : Bool) → t ≡ leb 2_208 c → not t ≡ true → c < 2_208
-not-held c t e n = leb-false 2_208 c (sym e ∙ not-true t n)
+pub not-held : (c : ℕ) (t : Bool) → t ≡ leb mostHours c → not t ≡ true → c < mostHours
+not-held c t e n = leb-false mostHours c (sym e ∙ not-true t n)
 
-pub held : (c : ℕ) (t : Bool) → t ≡ leb 2_208 c → not t ≡ false → 2_208 ≤ c
-held c t e n = leb-true 2_208 c (sym e ∙ not-false t n)
+pub held : (c : ℕ) (t : Bool) → t ≡ leb mostHours c → not t ≡ false → mostHours ≤ c
+held c t e n = leb-true mostHours c (sym e ∙ not-false t n)
 
 module _ (file conc flow : List ℕ) where
   pub promise-9 : (r : Walked) → workFits (length conc) (length flow) ≡ false → r ≡ stopped (refuse 9 0) → Promise file noRows conc flow (r .answer) (r .rows) conc flow
@@ -45,28 +46,28 @@ module _ (file conc flow : List ℕ) where
   promise-9 r e q = rw q (record { answers = rw e; leaves = rw e; concentrationsHold = rw e; flowsHold = rw e })
 
   -- ---- both are lent on: their first 2,208 cells come back
-  pub promise-settled : (r : Answer) (rows' cs fs : List ℕ) → 2_208 ≤ length conc → 2_208 ≤ length flow → Settled file noRows r rows' cs fs
-      → Promise file noRows conc flow r rows' (cs ++ drop 2_208 conc) (fs ++ drop 2_208 flow)
+  pub promise-settled : (r : Answer) (rows' cs fs : List ℕ) → mostHours ≤ length conc → mostHours ≤ length flow → Settled file noRows r rows' cs fs
+      → Promise file noRows conc flow r rows' (cs ++ drop mostHours conc) (fs ++ drop mostHours flow)
   unfolding answerOf rowsAfter workAfter need
   promise-settled r rows' cs fs a b s =
       let work = fits-work (length conc) (length flow) a b in
       record {
         answers = s .answers ∙ rw work;
         leaves = s .leaves ∙ rw work;
-        concentrationsHold = ap (λ (t : List ℕ). t ++ drop 2_208 conc) (s .concentrationsHold) ∙ rw work;
-        flowsHold = ap (λ (t : List ℕ). t ++ drop 2_208 flow) (s .flowsHold) ∙ rw work;
+        concentrationsHold = ap (λ (t : List ℕ). t ++ drop mostHours conc) (s .concentrationsHold) ∙ rw work;
+        flowsHold = ap (λ (t : List ℕ). t ++ drop mostHours flow) (s .flowsHold) ∙ rw work;
       }
 
 -- cleared cells hold no line's hours
-pub cleared : (xs zs : List ℕ) → length xs ≡ 2_208 → zs ≡ over (λ h. 0) (min 2_208 (length xs)) xs → zs ≡ cells []
+pub cleared : (xs zs : List ℕ) → length xs ≡ mostHours → zs ≡ over (λ h. 0) (min mostHours (length xs)) xs → zs ≡ cells []
 unfolding cells
-cleared xs zs l e = zeroed xs zs l e ∙ zeros 2_208
+cleared xs zs l e = zeroed xs zs l e ∙ zeros mostHours
 
-pub no-rows-long : length noRows ≡ 336
+pub no-rows-long : length noRows ≡ mostCells
 unfolding noRows
-no-rows-long = length-replicate {A = ℕ} 336 0
+no-rows-long = length-replicate {A = ℕ} mostCells 0
 
-module _ (file out conc flow : List ℕ) (w : Tally) (p : WalkPromise file out conc flow w) where
+module _ (file : List ℕ) (d : Done) (conc flow : List ℕ) (w : Tally) (p : WalkPromise file d conc flow w) where
   -- a file that is refused leaves no row and no cell
   pub settled-stopped : (w .fault .number ≡ 0 → ⊥) → (r : Walked) (conc' flow' : List ℕ) → r ≡ stopped (w .fault) → conc' ≡ cells [] → flow' ≡ cells []
       → Settled file noRows (r .answer) (r .rows) conc' flow'
@@ -74,13 +75,13 @@ module _ (file out conc flow : List ℕ) (w : Tally) (p : WalkPromise file out c
   settled-stopped n r conc' flow' e c l = let o = p .refuses n in rw (e, c, l) (record { answers = rw o; leaves = rw o; concentrationsHold = rw o; flowsHold = rw o })
 
   -- a file that is accepted has cells enough for its rows
-  pub settled-0 : w .fault .number ≡ 0 → Settled file noRows (record { number = 0; place = 0; rows = w .lines; total1 = w .total1; total2 = w .total2; total3 = w .total3 }) out conc flow
+  pub settled-0 : w .fault .number ≡ 0 → Settled file noRows (record { number = 0; place = 0; rows = w .lines; totals = d .totals }) (d .rows) conc flow
   unfolding answerFrom rowsFrom cellsFrom rowsFit acceptance need
   settled-0 z =
       let e = p .ends z in
-      let n : leb (7 * length (e .lines)) (length noRows) ≡ true = le-leb (7 * length (e .lines)) (length noRows) (omega (arith, e .most, no-rows-long)) in
+      let n : leb (rowCells * length (e .lines)) (length noRows) ≡ true = le-leb (rowCells * length (e .lines)) (length noRows) (omega (arith, e .most, no-rows-long)) in
       record {
-        answers = rw (e .count, e .total1, e .total2, e .total3, e .accepted, n);
+        answers = rw (e .count, e .totals, e .accepted, n);
         leaves = e .rows ∙ rw (e .accepted, n);
         concentrationsHold = e .concHeld ∙ rw (e .accepted, n);
         flowsHold = e .flowHeld ∙ rw (e .accepted, n);

@@ -7,7 +7,9 @@ use native.Mathlib.Omega.{arith}
 use lib.ListN.{length, getD, set, length-set, length-append, length-take, length-drop}
 use lib.Dec.{eqb}
 use borrow.Author.Tests.{eqb-true, eqb-false}
+use Rattle.law.specs.Numbers.{hoursOfDay, mostDays, mostHours, mostLines, totalCells, mostSurveys, mostSulphur, mostAsh, mostFuel, mostConcentration, mostFlow}
 use Rattle.law.specs.Words.{pick, table}
+use Rattle.law.proofs.Tests.{pick-true, pick-false}
 use Rattle.law.proofs.Tables.{table-length, table-at}
 use Rattle.reading.specs.declared.Rounded.{Rounded}
 use Rattle.reading.specs.Reading.{flow, stated, flaggedOf}
@@ -15,7 +17,7 @@ use Rattle.rules.specs.declared.Head.{Head}
 use Rattle.rules.specs.declared.Survey.{Survey}
 use Rattle.rules.specs.declared.Batch.{Batch}
 use Rattle.rules.specs.declared.View.{View}
-use Rattle.rules.specs.Records.{Day, dayOf}
+use Rattle.rules.specs.Records.{Day, masksOf, dayOf}
 use Rattle.rules.specs.Slots.{valid, missing, stopped}
 use Rattle.rules.specs.Hours.{bit, pairAt, slotOf, measuredMasks, runsAt}
 use Rattle.rules.specs.Lines.{Line, hasSurvey, surveys, fuel}
@@ -23,13 +25,12 @@ use Rattle.rules.specs.Fill.{Values, zeroes}
 use Rattle.rules.specs.Grams.{valuesOf}
 use Rattle.rules.specs.Judge.{fine, judgeHours}
 use Rattle.rules.specs.Walk.{Between, Inside, viewOf, begun, withDay, withEnforcement, withPlant, withBatch}
-use Rattle.record.specs.Flat.{masksOf}
 use Rattle.day.specs.Day.{concentrationAt, flowAt}
 use Rattle.day.proofs.Laws.{PairAccepted, day-accepted, concentration-blank, flow-blank, concentration-most, flow-most}
 use Rattle.walk.specs.declared.books.Sums.{Sums}
 use Rattle.walk.specs.declared.take.Taken.{Taken}
 use Rattle.walk.specs.Views.{afterHead, afterDay, afterEnforcement, afterPlant, afterBatch, withSurvey}
-use Rattle.walk.specs.Books.{patched, plain, flagAt, LineBooks, Kept}
+use Rattle.walk.specs.Books.{putFrom, inCell, flagAt, Open, inOpen, Done, Long, LineBooks, Kept}
 use Rattle.walk.proofs.Cleared.{cleared-all}
 use Rattle.walk.specs.Taking.{HeadTaken, DayTaken, EnforcementTaken, PlantTaken, BatchTaken}
 use Rattle.surveyed.specs.declared.Weighed.{Weighed}
@@ -39,109 +40,88 @@ use Rattle.walk.proofs.Views.{view-head, view-day, view-enforcement, vi
 use Rattle.walk.proofs.Steps.{begun-books, day-books, enforcement-books, beaten-books, plant-books, batch-books}
 
 -- the same books under other names
-books-as : (x : Line) {s t : Sums} {runs runs' measured measured' flags flags' conc conc' flow flow' : List ℕ} → LineBooks x s runs measured flags conc flow
-    → t ≡ s → runs' ≡ runs → measured' ≡ measured → flags' ≡ flags → conc' ≡ conc → flow' ≡ flow → LineBooks x t runs' measured' flags' conc' flow'
-books-as x k a b c d e f = rw (a, b, c, d, e, f) k
+books-as : (x : Line) {s t : Sums} {o p : Open} → LineBooks x s o → t ≡ s → p ≡ o → LineBooks x t p
+books-as x k a b = rw (a, b) k
+
+open-is : (a b c e f a' b' c' e' f' : List ℕ) → a ≡ a' → b ≡ b' → c ≡ c' → e ≡ e' → f ≡ f' → inOpen a b c e f ≡ inOpen a' b' c' e' f'
+open-is a b c e f a' b' c' e' f' p q r s t = cc
+
+long-as : {o : Open} (a b c e f : List ℕ) → Long o → length a ≡ length (o .runs) → length b ≡ length (o .measured) → length c ≡ length (o .flags)
+    → length e ≡ length (o .concentrations) → length f ≡ length (o .flows) → Long (inOpen a b c e f)
+long-as a b c e f l p q r s t =
+    record { runs = p ∙ l .runs; measured = q ∙ l .measured; flags = r ∙ l .flags; concentrations = s ∙ l .concentrations; flows = t ∙ l .flows }
 
 -- ---- a head
-pub kept-head : (done : List Line) (v : View) (s : Sums) (h : Head) (runs measured flags conc flow out flags' conc' flow' : List ℕ) (r : Taken)
-    → Kept (Between done) v s runs measured flags conc flow out → h .days ≤ 92 → length done < 48
-    → HeadTaken v s h flags conc flow flags' conc' flow' r → Kept (Inside (begun h) done) (r .view) (r .sums) runs measured flags' conc' flow' out
-kept-head done v s h runs measured flags conc flow out flags' conc' flow' r k days room t =
-    let f : flags' ≡ table (λ i. 0) 2_208 = t .flagsNow ∙ cleared-all flags (s .used) (k .books .flagsPast) (k .flagsLong) (k .books .usedMost) in
-    let c : conc' ≡ table (λ i. 0) 2_208 = t .concNow ∙ cleared-all conc (s .used) (k .books .concPast) (k .concLong) (k .books .usedMost) in
-    let l : flow' ≡ table (λ i. 0) 2_208 = t .flowNow ∙ cleared-all flow (s .used) (k .books .flowPast) (k .flowLong) (k .books .usedMost) in
+pub kept-head : (done : List Line) (v : View) (s : Sums) (h : Head) (o : Open) (d : Done) (flags' conc' flow' : List ℕ) (r : Taken)
+    → Kept (Between done) v s o d → h .days ≤ mostDays → (1 ≤ h .pollutant) × (h .pollutant ≤ totalCells) → length done < mostLines
+    → HeadTaken v s h (o .flags) (o .concentrations) (o .flows) flags' conc' flow' r → Kept (Inside (begun h) done) (r .view) (r .sums) (inOpen (o .runs) (o .measured) flags' conc' flow') d
+kept-head done v s h o d flags' conc' flow' r k days p room t =
+    let b = k .books in
+    let l = k .long in
+    let zeros : List ℕ = table (λ i. 0) mostHours in
+    let f : flags' ≡ zeros = t .flagsNow ∙ cleared-all (o .flags) (s .used) (b .flagsPast) (l .flags) (b .usedMost) in
+    let c : conc' ≡ zeros = t .concNow ∙ cleared-all (o .concentrations) (s .used) (b .concPast) (l .concentrations) (b .usedMost) in
+    let w : flow' ≡ zeros = t .flowNow ∙ cleared-all (o .flows) (s .used) (b .flowPast) (l .flows) (b .usedMost) in
+    let n : length zeros ≡ mostHours = table-length (λ i. 0) mostHours in
     record {
-      view = t .view ∙ ap (λ (w : View). afterHead w h) (k .view) ∙ view-head done h;
+      view = t .view ∙ ap (λ (u : View). afterHead u h) (k .view) ∙ view-head done h;
       lines = omega arith;
-      rows = k .rows;
-      total1 = ap (λ (u : Sums). u .total1) (t .sums) ∙ k .total1;
-      total2 = ap (λ (u : Sums). u .total2) (t .sums) ∙ k .total2;
-      total3 = ap (λ (u : Sums). u .total3) (t .sums) ∙ k .total3;
-      most1 = omega (arith, ap (λ (u : Sums). u .total1) (t .sums), k .most1);
-      most2 = omega (arith, ap (λ (u : Sums). u .total2) (t .sums), k .most2);
-      most3 = omega (arith, ap (λ (u : Sums). u .total3) (t .sums), k .most3);
-      runsLong = k .runsLong;
-      measuredLong = k .measuredLong;
-      flagsLong = ap length f ∙ table-length (λ i. 0) 2_208;
-      concLong = ap length c ∙ table-length (λ i. 0) 2_208;
-      flowLong = ap length l ∙ table-length (λ i. 0) 2_208;
-      outLong = k .outLong;
-      books = books-as (begun h) (begun-books h s runs measured days) (t .sums) refl refl f c l;
+      done = k .done;
+      long = record { runs = l .runs; measured = l .measured; flags = ap length f ∙ n; concentrations = ap length c ∙ n; flows = ap length w ∙ n };
+      books = books-as (begun h) (begun-books h (o .runs) (o .measured) days p) (t .sums) (open-is _ _ _ _ _ _ _ _ _ _ refl refl f c w);
     }
 
 -- ---- a record of the open line: the lines that are done stay
-kept-line : (x y : Line) (done : List Line) (v v' : View) (s s' : Sums) (runs runs' measured measured' flags flags' conc conc' flow flow' out : List ℕ)
-    → Kept (Inside x done) v s runs measured flags conc flow out → v' ≡ viewOf (Inside y done)
-    → s' .total1 ≡ s .total1 → s' .total2 ≡ s .total2 → s' .total3 ≡ s .total3
-    → length runs' ≡ length runs → length measured' ≡ length measured → length flags' ≡ length flags → length conc' ≡ length conc → length flow' ≡ length flow
-    → LineBooks y s' runs' measured' flags' conc' flow' → Kept (Inside y done) v' s' runs' measured' flags' conc' flow' out
-kept-line x y done v v' s s' runs runs' measured measured' flags flags' conc conc' flow flow' out k w a b c r m f p l books =
-    record {
-      view = w;
-      lines = k .lines;
-      rows = k .rows;
-      total1 = a ∙ k .total1;
-      total2 = b ∙ k .total2;
-      total3 = c ∙ k .total3;
-      most1 = omega (arith, k .most1);
-      most2 = omega (arith, k .most2);
-      most3 = omega (arith, k .most3);
-      runsLong = r ∙ k .runsLong;
-      measuredLong = m ∙ k .measuredLong;
-      flagsLong = f ∙ k .flagsLong;
-      concLong = p ∙ k .concLong;
-      flowLong = l ∙ k .flowLong;
-      outLong = k .outLong;
-      books = books;
-    }
+kept-line : (x y : Line) (done : List Line) {v v' : View} {s s' : Sums} {o o' : Open} {d : Done} → Kept (Inside x done) v s o d → v' ≡ viewOf (Inside y done) → Long o' → LineBooks y s' o'
+    → Kept (Inside y done) v' s' o' d
+kept-line x y done k w l b = record { view = w; lines = k .lines; done = k .done; long = l; books = b }
 
 -- ---- a day
-pub patched-length : (g : ℕ → ℕ) (c from : ℕ) (cells : List ℕ) → from + c ≤ length cells → length (patched g c from cells) ≡ length cells
-patched-length g c from cells l = simp (length-append, length-take, length-drop) (omega (arith, table-length g c))
+pub put-length : (g : ℕ → ℕ) (c from : ℕ) (cells : List ℕ) → from + c ≤ length cells → length (putFrom g c from cells) ≡ length cells
+put-length g c from cells l = simp (length-append, length-take, length-drop) (omega (arith, table-length g c))
 
 -- what a day measured is what its rounding keeps
-value-by : (d : Day) (k : ℕ) (f : Values → ℕ) (v : ℕ) → f zeroes ≡ 0 → (bit k (d .measured) ≡ 1 → v ≡ f (valuesOf (pairAt d k))) → ((bit k (d .measured) ≡ 1 → ⊥) → v ≡ 0)
-    → (b r : Bool) → eqb (bit k (d .measured)) 1 ≡ b → f (plain (pick b (valid (pairAt d k)) (pick r missing stopped))) ≡ v
-unfolding plain pick
+value-by : (d : Day) (k : ℕ) (f : Values → ℕ) (v : ℕ) → f zeroes ≡ 0 → (bit k (d .masks .measured) ≡ 1 → v ≡ f (valuesOf (pairAt d k))) → ((bit k (d .masks .measured) ≡ 1 → ⊥) → v ≡ 0)
+    → (b r : Bool) → eqb (bit k (d .masks .measured)) 1 ≡ b → f (inCell (pick b (valid (pairAt d k)) (pick r missing stopped))) ≡ v
+unfolding inCell pick
 value-by d k f v z on off true r e = sym (on (eqb-true _ 1 e))
 value-by d k f v z on off false true e = z ∙ sym (off (eqb-false _ 1 e))
 value-by d k f v z on off false false e = z ∙ sym (off (eqb-false _ 1 e))
 
-module _ (place : ℕ) (d : Day) (fine-hours : judgeHours place d ≡ fine) (k : ℕ) (l : k < 24) where
-  day-c : plain (slotOf d k) .c ≡ concentrationAt d k
+module _ (d : Day) (fine-hours : judgeHours d ≡ fine) (k : ℕ) (l : k < 24) where
+  day-c : inCell (slotOf d k) .c ≡ concentrationAt d k
   unfolding slotOf zeroes valuesOf
   day-c =
-      value-by d k (λ v. v .c) (concentrationAt d k) refl (λ e. day-accepted place d fine-hours k l e .concentration-is) (concentration-blank d k)
-      (eqb (bit k (d .measured)) 1) (eqb (bit k (d .run)) 1) refl
+      value-by d k (λ v. v .c) (concentrationAt d k) refl (λ e. day-accepted d fine-hours k l e .concentration-is) (concentration-blank d k)
+      (eqb (bit k (d .masks .measured)) 1) (eqb (bit k (d .masks .run)) 1) refl
 
-  day-l : plain (slotOf d k) .l ≡ flowAt d k
+  day-l : inCell (slotOf d k) .l ≡ flowAt d k
   unfolding slotOf zeroes valuesOf
   day-l =
-      value-by d k (λ v. v .l) (flowAt d k) refl (λ e. day-accepted place d fine-hours k l e .flow-is) (flow-blank d k)
-      (eqb (bit k (d .measured)) 1) (eqb (bit k (d .run)) 1) refl
+      value-by d k (λ v. v .l) (flowAt d k) refl (λ e. day-accepted d fine-hours k l e .flow-is) (flow-blank d k)
+      (eqb (bit k (d .masks .measured)) 1) (eqb (bit k (d .masks .run)) 1) refl
 
-pub kept-day : (x : Line) (done : List Line) (place : ℕ) (bytes : List ℕ) (v : View) (s : Sums) (runs measured flags conc flow out runs' measured' conc' flow' : List ℕ) (r : Taken)
-    → Kept (Inside x done) v s runs measured flags conc flow out → length (x .days) < x .head .days → dayOf bytes .number ≡ length (x .days)
-    → DayTaken place bytes v s (masksOf (dayOf bytes)) runs measured conc flow runs' measured' conc' flow' r → r .fault .number ≡ 0 → judgeHours place (dayOf bytes) ≡ fine
-    → Kept (Inside (withDay x (dayOf bytes)) done) (r .view) (r .sums) runs' measured' flags conc' flow' out
-unfolding masksOf
-kept-day x done place bytes v s runs measured flags conc flow out runs' measured' conc' flow' r k more turn t ok f =
+pub kept-day : (x : Line) (done : List Line) (bytes : List ℕ) (v : View) (s : Sums) (o : Open) (e : Done) (runs' measured' conc' flow' : List ℕ) (r : Taken)
+    → Kept (Inside x done) v s o e → length (x .days) < x .head .days → masksOf bytes .day ≡ length (x .days)
+    → DayTaken bytes v s (masksOf bytes) (o .runs) (o .measured) (o .concentrations) (o .flows) runs' measured' conc' flow' r → r .fault .number ≡ 0 → judgeHours (dayOf bytes) ≡ fine
+    → Kept (Inside (withDay x (dayOf bytes)) done) (r .view) (r .sums) (inOpen runs' measured' (o .flags) conc' flow') e
+unfolding dayOf
+kept-day x done bytes v s o e runs' measured' conc' flow' r k more turn t ok f =
     let d = dayOf bytes in
     let n = length (x .days) in
-    let cv : ℕ → ℕ = λ i. getD (table (concentrationAt d) 24) i 0 in
-    let lv : ℕ → ℕ = λ i. getD (table (flowAt d) 24) i 0 in
-    let er : runs' ≡ set runs n (d .run) = t .runsNow ok ∙ ap (λ (i : ℕ). set runs i (d .run)) turn in
-    let em : measured' ≡ set measured n (d .measured) = t .measuredNow ok ∙ ap (λ (i : ℕ). set measured i (d .measured)) turn in
-    let ec : conc' ≡ patched cv 24 (24 * n) conc = t .concNow ok ∙ ap (λ (i : ℕ). patched cv 24 (24 * i) conc) turn in
-    let el : flow' ≡ patched lv 24 (24 * n) flow = t .flowNow ok ∙ ap (λ (i : ℕ). patched lv 24 (24 * i) flow) turn in
-    let books = day-books x d (k .books) more cv lv (λ i l. day-c place d f i l ∙ sym (table-at (concentrationAt d) 24 i 0 l)) (λ i l. day-l place d f i l ∙ sym (table-at (flowAt d) 24 i 0 l)) (λ i l. subst (λ (m : ℕ). m ≤ 1_000_000) (sym (table-at (concentrationAt d) 24 i 0 l)) (concentration-most d i)) (λ i l. subst (λ (m : ℕ). m ≤ 5_000_000) (sym (table-at (flowAt d) 24 i 0 l)) (flow-most d i)) (k .runsLong) (k .measuredLong) in
-    kept-line x (withDay x d) done v (r .view) s (r .sums) runs runs' measured measured' flags flags conc conc' flow flow' out k
-    (t .view ok ∙ ap (λ (w : View). afterDay w (masksOf d)) (k .view) ∙ view-day x done d)
-    (ap (λ (u : Sums). u .total1) (t .sums)) (ap (λ (u : Sums). u .total2) (t .sums)) (ap (λ (u : Sums). u .total3) (t .sums))
-    (ap length er ∙ length-set runs n (d .run)) (ap length em ∙ length-set measured n (d .measured)) refl
-    (ap length ec ∙ patched-length cv 24 (24 * n) conc (omega (arith, k .books .period, k .concLong))) (ap length el ∙ patched-length lv 24 (24 * n) flow (omega (arith, k .books .period, k .flowLong)))
-    (books-as (withDay x d) books (t .sums) er em refl ec el)
+    let m = masksOf bytes in
+    let cv : ℕ → ℕ = λ i. getD (table (concentrationAt d) hoursOfDay) i 0 in
+    let lv : ℕ → ℕ = λ i. getD (table (flowAt d) hoursOfDay) i 0 in
+    let er : runs' ≡ set (o .runs) n (m .run) = t .runsNow ok ∙ ap (λ (i : ℕ). set (o .runs) i (m .run)) turn in
+    let em : measured' ≡ set (o .measured) n (m .measured) = t .measuredNow ok ∙ ap (λ (i : ℕ). set (o .measured) i (m .measured)) turn in
+    let ec : conc' ≡ putFrom cv hoursOfDay (hoursOfDay * n) (o .concentrations) = t .concNow ok ∙ ap (λ (i : ℕ). putFrom cv hoursOfDay (hoursOfDay * i) (o .concentrations)) turn in
+    let el : flow' ≡ putFrom lv hoursOfDay (hoursOfDay * n) (o .flows) = t .flowNow ok ∙ ap (λ (i : ℕ). putFrom lv hoursOfDay (hoursOfDay * i) (o .flows)) turn in
+    let books = day-books x d (k .books) more cv lv (λ i l. day-c d f i l ∙ sym (table-at (concentrationAt d) hoursOfDay i 0 l)) (λ i l. day-l d f i l ∙ sym (table-at (flowAt d) hoursOfDay i 0 l)) (λ i l. subst (λ (q : ℕ). q ≤ mostConcentration) (sym (table-at (concentrationAt d) hoursOfDay i 0 l)) (concentration-most d i)) (λ i l. subst (λ (q : ℕ). q ≤ mostFlow) (sym (table-at (flowAt d) hoursOfDay i 0 l)) (flow-most d i)) (k .long) in
+    kept-line x (withDay x d) done k (t .view ok ∙ ap (λ (w : View). afterDay w m) (k .view) ∙ view-day x done d)
+    (long-as _ _ _ _ _ (k .long) (ap length er ∙ length-set (o .runs) n (m .run)) (ap length em ∙ length-set (o .measured) n (m .measured)) refl
+    (ap length ec ∙ put-length cv hoursOfDay (hoursOfDay * n) (o .concentrations) (omega (arith, k .books .period, k .long .concentrations)))
+    (ap length el ∙ put-length lv hoursOfDay (hoursOfDay * n) (o .flows) (omega (arith, k .books .period, k .long .flows))))
+    (books-as (withDay x d) books (t .sums) (open-is _ _ _ _ _ _ _ _ _ _ er em refl ec el))
 
 -- ---- surveys: an accepted pair's kept values are its values
 survey-c : (t : Survey) → PairAccepted (t .pair) → surveyC t ≡ valuesOf (t .pair) .c
@@ -152,28 +132,20 @@ survey-l : (t : Survey) → PairAccepted (t .pair) → surveyL t ≡ valuesOf (t
 unfolding flaggedOf stated valuesOf
 survey-l t e = ap (λ (r : Rounded). flaggedOf r .value) (e .flow-value)
 
-most-c : (t : Survey) → PairAccepted (t .pair) → valuesOf (t .pair) .c ≤ 1_000_000
+most-c : (t : Survey) → PairAccepted (t .pair) → valuesOf (t .pair) .c ≤ mostConcentration
 unfolding valuesOf
 most-c t e = e .concentration-most
 
-most-l : (t : Survey) → PairAccepted (t .pair) → valuesOf (t .pair) .l ≤ 5_000_000
+most-l : (t : Survey) → PairAccepted (t .pair) → valuesOf (t .pair) .l ≤ mostFlow
 unfolding valuesOf
 most-l t e = e .flow-most
-
-pick-on : {A : Type 0} (b : Bool) (x y : A) → b ≡ true → pick b x y ≡ x
-unfolding pick
-pick-on b x y e = rw e
-
-pick-off : {A : Type 0} (b : Bool) (x y : A) → b ≡ false → pick b x y ≡ y
-unfolding pick
-pick-off b x y e = rw e
 
 -- a survey that is beaten adds nothing
 adds-nothing : (s : Sums) → withSurvey s nothing ≡ s
 adds-nothing s =
     let n : s .surveyed + 0 ≡ s .surveyed = omega arith in
     let w : 0 + s .weight ≡ s .weight = omega arith in
-    ap₂ (λ (i j : ℕ). record { surveyed = i; weight = j; sulphur = s .sulphur; ash = s .ash; used = s .used; total1 = s .total1; total2 = s .total2; total3 = s .total3 }) n w
+    ap₂ (λ (i j : ℕ). record { surveyed = i; weight = j; sulphur = s .sulphur; ash = s .ash; used = s .used }) n w
 
 flag-bit : (b : Bool) → eqb (pick b 1 0) 1 ≡ b
 unfolding pick
@@ -186,14 +158,13 @@ unfolding pick
 pick-length true cells h v = length-set cells h v
 pick-length false cells h v = refl
 
-module _ (x : Line) (done : List Line) (v : View) (s : Sums) (t : Survey) (runs measured flags conc flow out : List ℕ)
-    (k : Kept (Inside x done) v s runs measured flags conc flow out)
-    (hour : t .hour < 24 * x .head .days) (all-days : length (x .days) ≡ x .head .days) (room : surveys x < 120) (ok : PairAccepted (t .pair))
+module _ (x : Line) (done : List Line) (v : View) (s : Sums) (t : Survey) (o : Open) (d : Done) (k : Kept (Inside x done) v s o d)
+    (hour : t .hour < hoursOfDay * x .head .days) (all-days : length (x .days) ≡ x .head .days) (room : surveys x < mostSurveys) (ok : PairAccepted (t .pair))
   where
     abbrev here : Bool
     here = runsAt (measuredMasks (x .days)) (t .hour)
 
-    within : t .hour < 2_208
+    within : t .hour < mostHours
     within = omega (arith, k .books .period)
 
     cell-c : (cells : List ℕ) → replacedCell here (t .hour) (surveyC t) cells ≡ replacedCell here (t .hour) (valuesOf (t .pair) .c) cells
@@ -205,55 +176,55 @@ module _ (x : Line) (done : List Line) (v : View) (s : Sums) (t : Survey) (runs 
     stands : (w : Weighed) → w ≡ standing (surveyC t) (surveyL t) → withSurvey s w ≡ withSurvey s (standing (valuesOf (t .pair) .c) (valuesOf (t .pair) .l))
     stands w e = ap (withSurvey s) e ∙ ap₂ (λ (c l : ℕ). withSurvey s (standing c l)) (survey-c t ok) (survey-l t ok)
 
-    pub kept-enforcement : (flags' conc' flow' : List ℕ) (r : Taken) → x .plant ≡ [] → EnforcementTaken v s t here flags conc flow flags' conc' flow' r
-        → Kept (Inside (withEnforcement x t) done) (r .view) (r .sums) runs measured flags' conc' flow' out
+    -- with other flags and other values at one hour the lists are as long as before
+    long-survey : (flags' conc' flow' : List ℕ) (a b : ℕ) → length flags' ≡ length (o .flags) → conc' ≡ replacedCell here (t .hour) a (o .concentrations) → flow' ≡ replacedCell here (t .hour) b (o .flows)
+        → Long (inOpen (o .runs) (o .measured) flags' conc' flow')
+    long-survey flags' conc' flow' a b f c l =
+        long-as _ _ _ _ _ (k .long) refl refl f (ap length c ∙ pick-length here (o .concentrations) (t .hour) a) (ap length l ∙ pick-length here (o .flows) (t .hour) b)
+
+    pub kept-enforcement : (flags' conc' flow' : List ℕ) (r : Taken) → x .plant ≡ [] → EnforcementTaken v s t here (o .flags) (o .concentrations) (o .flows) flags' conc' flow' r
+        → Kept (Inside (withEnforcement x t) done) (r .view) (r .sums) (inOpen (o .runs) (o .measured) flags' conc' flow') d
     kept-enforcement flags' conc' flow' r none e =
         let books = enforcement-books x t within (k .books) all-days none room (most-c t ok) (most-l t ok) hour in
-        kept-line x (withEnforcement x t) done v (r .view) s (r .sums) runs runs measured measured flags flags' conc conc' flow flow' out k
-        (e .view ∙ ap (λ (w : View). afterEnforcement w (t .hour)) (k .view) ∙ view-enforcement x done t)
-        (ap (λ (u : Sums). u .total1) (e .sums)) (ap (λ (u : Sums). u .total2) (e .sums)) (ap (λ (u : Sums). u .total3) (e .sums))
-        refl refl (ap length (e .flagsNow) ∙ length-set flags (t .hour) 1)
-        (ap length (e .put .concentrations) ∙ pick-length here conc (t .hour) (surveyC t)) (ap length (e .put .flows) ∙ pick-length here flow (t .hour) (surveyL t))
-        (books-as (withEnforcement x t) books (e .sums ∙ stands (e .weighed) (e .put .weighs)) refl refl (e .flagsNow) (e .put .concentrations ∙ cell-c conc) (e .put .flows ∙ cell-l flow))
+        kept-line x (withEnforcement x t) done k (e .view ∙ ap (λ (w : View). afterEnforcement w (t .hour)) (k .view) ∙ view-enforcement x done t)
+        (long-survey flags' conc' flow' _ _ (ap length (e .flagsNow) ∙ length-set (o .flags) (t .hour) 1) (e .put .concentrations) (e .put .flows))
+        (books-as (withEnforcement x t) books (e .sums ∙ stands (e .weighed) (e .put .weighs))
+        (open-is _ _ _ _ _ _ _ _ _ _ refl refl (e .flagsNow) (e .put .concentrations ∙ cell-c (o .concentrations)) (e .put .flows ∙ cell-l (o .flows))))
 
     -- a flag is 1 where an enforcement survey stands
-    flag-is : getD flags (t .hour) 0 ≡ flagAt (x .enforcement) (t .hour)
-    flag-is = ap (λ (l : List ℕ). getD l (t .hour) 0) (k .books .surveys .flagged) ∙ table-at (flagAt (x .enforcement)) 2_208 (t .hour) 0 within
+    flag-is : getD (o .flags) (t .hour) 0 ≡ flagAt (x .enforcement) (t .hour)
+    flag-is = ap (λ (l : List ℕ). getD l (t .hour) 0) (k .books .surveys .flagged) ∙ table-at (flagAt (x .enforcement)) mostHours (t .hour) 0 within
 
-    module _ (conc' flow' : List ℕ) (r : Taken) (e : PlantTaken v s t here flags conc flow conc' flow' r) where
+    module _ (conc' flow' : List ℕ) (r : Taken) (e : PlantTaken v s t here (o .flags) (o .concentrations) (o .flows) conc' flow' r) where
+      abbrev after : Open
+      after = inOpen (o .runs) (o .measured) (o .flags) conc' flow'
+
       plant-view : r .view ≡ viewOf (Inside (withPlant x t) done)
       plant-view = e .view ∙ ap (λ (w : View). afterPlant w (t .hour)) (k .view) ∙ view-plant x done t
 
-      plant-by : (b : Bool) → hasSurvey (t .hour) (x .enforcement) ≡ b → beats flags (t .hour) ≡ b → Kept (Inside (withPlant x t) done) (r .view) (r .sums) runs measured flags conc' flow' out
+      plant-by : (b : Bool) → hasSurvey (t .hour) (x .enforcement) ≡ b → beats (o .flags) (t .hour) ≡ b → Kept (Inside (withPlant x t) done) (r .view) (r .sums) after d
       plant-by true h q =
-          let es : r .sums ≡ s = e .sums ∙ ap (withSurvey s) (e .put .weighs ∙ pick-on _ _ _ q) ∙ adds-nothing s in
-          let ec : conc' ≡ conc = e .put .concentrations ∙ pick-on _ _ _ q in
-          let el : flow' ≡ flow = e .put .flows ∙ pick-on _ _ _ q in
-          let books = beaten-books x t within (k .books) all-days room h in
-          kept-line x (withPlant x t) done v (r .view) s (r .sums) runs runs measured measured flags flags conc conc' flow flow' out k plant-view
-          (ap (λ (u : Sums). u .total1) es) (ap (λ (u : Sums). u .total2) es) (ap (λ (u : Sums). u .total3) es)
-          refl refl refl (ap length ec) (ap length el) (books-as (withPlant x t) books es refl refl refl ec el)
+          let es : r .sums ≡ s = e .sums ∙ ap (withSurvey s) (e .put .weighs ∙ sym (pick-true _ _ _ _ q refl)) ∙ adds-nothing s in
+          let ec : conc' ≡ o .concentrations = e .put .concentrations ∙ sym (pick-true _ _ _ _ q refl) in
+          let el : flow' ≡ o .flows = e .put .flows ∙ sym (pick-true _ _ _ _ q refl) in
+          kept-line x (withPlant x t) done k plant-view (long-as _ _ _ _ _ (k .long) refl refl refl (ap length ec) (ap length el))
+          (books-as (withPlant x t) (beaten-books x t within (k .books) all-days room h) es (open-is _ _ _ _ _ _ _ _ _ _ refl refl refl ec el))
       plant-by false h q =
-          let es : r .sums ≡ withSurvey s (standing (valuesOf (t .pair) .c) (valuesOf (t .pair) .l)) = e .sums ∙ stands (e .weighed) (e .put .weighs ∙ pick-off _ _ _ q) in
-          let ec : conc' ≡ replacedCell here (t .hour) (valuesOf (t .pair) .c) conc = e .put .concentrations ∙ pick-off _ _ _ q ∙ cell-c conc in
-          let el : flow' ≡ replacedCell here (t .hour) (valuesOf (t .pair) .l) flow = e .put .flows ∙ pick-off _ _ _ q ∙ cell-l flow in
+          let es : r .sums ≡ withSurvey s (standing (valuesOf (t .pair) .c) (valuesOf (t .pair) .l)) = e .sums ∙ stands (e .weighed) (e .put .weighs ∙ sym (pick-false _ _ _ _ q refl)) in
+          let ec : conc' ≡ replacedCell here (t .hour) (valuesOf (t .pair) .c) (o .concentrations) = e .put .concentrations ∙ sym (pick-false _ _ _ _ q refl) ∙ cell-c (o .concentrations) in
+          let el : flow' ≡ replacedCell here (t .hour) (valuesOf (t .pair) .l) (o .flows) = e .put .flows ∙ sym (pick-false _ _ _ _ q refl) ∙ cell-l (o .flows) in
           let books = plant-books x t within (k .books) all-days room h (most-c t ok) (most-l t ok) in
-          kept-line x (withPlant x t) done v (r .view) s (r .sums) runs runs measured measured flags flags conc conc' flow flow' out k plant-view
-          (ap (λ (u : Sums). u .total1) es) (ap (λ (u : Sums). u .total2) es) (ap (λ (u : Sums). u .total3) es)
-          refl refl refl (ap length ec ∙ pick-length here conc (t .hour) (valuesOf (t .pair) .c)) (ap length el ∙ pick-length here flow (t .hour) (valuesOf (t .pair) .l))
-          (books-as (withPlant x t) books es refl refl refl ec el)
+          kept-line x (withPlant x t) done k plant-view (long-survey (o .flags) conc' flow' _ _ refl ec el)
+          (books-as (withPlant x t) books es (open-is _ _ _ _ _ _ _ _ _ _ refl refl refl ec el))
 
-      pub kept-plant : Kept (Inside (withPlant x t) done) (r .view) (r .sums) runs measured flags conc' flow' out
+      pub kept-plant : Kept (Inside (withPlant x t) done) (r .view) (r .sums) after d
       unfolding flagAt
-      kept-plant = plant-by (hasSurvey (t .hour) (x .enforcement)) refl (sym (beats-within flags (t .hour) within) ∙ ap (λ (n : ℕ). eqb n 1) flag-is ∙ flag-bit (hasSurvey (t .hour) (x .enforcement)))
+      kept-plant = plant-by (hasSurvey (t .hour) (x .enforcement)) refl (sym (beats-within (o .flags) (t .hour) within) ∙ ap (λ (n : ℕ). eqb n 1) flag-is ∙ flag-bit (hasSurvey (t .hour) (x .enforcement)))
 
 -- ---- a batch
-pub kept-batch : (x : Line) (done : List Line) (v : View) (s : Sums) (b : Batch) (runs measured flags conc flow out : List ℕ) (r : Taken)
-    → Kept (Inside x done) v s runs measured flags conc flow out → b .kg + fuel (x .batches) ≤ 10_000_000_000 → b .sulphur ≤ 2_000 → b .ash ≤ 10_000
-    → BatchTaken v s b r → Kept (Inside (withBatch x b) done) (r .view) (r .sums) runs measured flags conc flow out
-kept-batch x done v s b runs measured flags conc flow out r k most sm am e =
-    kept-line x (withBatch x b) done v (r .view) s (r .sums) runs runs measured measured flags flags conc conc flow flow out k
-    (e .view ∙ ap (λ (w : View). afterBatch w (b .kg)) (k .view) ∙ view-batch x done b)
-    (ap (λ (u : Sums). u .total1) (e .sums)) (ap (λ (u : Sums). u .total2) (e .sums)) (ap (λ (u : Sums). u .total3) (e .sums))
-    refl refl refl refl refl
-    (books-as (withBatch x b) (batch-books x b (k .books) most sm am) (e .sums) refl refl refl refl refl)
+pub kept-batch : (x : Line) (done : List Line) (v : View) (s : Sums) (b : Batch) (o : Open) (d : Done) (r : Taken)
+    → Kept (Inside x done) v s o d → b .kg + fuel (x .batches) ≤ mostFuel → b .sulphur ≤ mostSulphur → b .ash ≤ mostAsh
+    → BatchTaken v s b r → Kept (Inside (withBatch x b) done) (r .view) (r .sums) o d
+kept-batch x done v s b o d r k most sm am e =
+    kept-line x (withBatch x b) done k (e .view ∙ ap (λ (w : View). afterBatch w (b .kg)) (k .view) ∙ view-batch x done b) (k .long)
+    (books-as (withBatch x b) (batch-books x b (k .books) most sm am) (e .sums) refl)

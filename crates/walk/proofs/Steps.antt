@@ -11,6 +11,7 @@ use lib.ListN.{length, set, length-append}
 use lib.Seq.{take-suc-set, getD-set-other}
 use lib.Dec.{eqb}
 use borrow.Author.Tests.{eq-eqb, ne-eqb, eqb-true, eqb-false}
+use Rattle.law.specs.Numbers.{mostDays, mostHours, totalCells, mostSurveys, mostSulphur, mostAsh, mostFuel, mostConcentration, mostFlow, mostAmount}
 use Rattle.law.specs.Words.{pick, sumOf, table, largest}
 use Rattle.law.proofs.Tables.{table-same, table-set, table-patch}
 use Rattle.rules.specs.declared.Head.{Head}
@@ -28,27 +29,28 @@ use Rattle.walk.proofs.Cleared.{table-zero}
 use Rattle.walk.specs.declared.books.Sums.{Sums}
 use Rattle.surveyed.specs.Put.{standing}
 use Rattle.walk.specs.Views.{openedSums, withSurvey, withFuel}
-use Rattle.walk.specs.Books.{patched, plain, valuesAt, flagAt, CellsKept, SurveysKept, LineBooks}
+use Rattle.walk.specs.Books.{putFrom, inCell, valuesAt, flagAt, Open, inOpen, CellsKept, SurveysKept, LineBooks, Long}
 use Rattle.walk.proofs.Hours.{begun-zero, past-zero, day-before, day-own, enforcement-other, plant-other, plant-second, enforcement-own, plant-own, measured-slot, unmeasured}
 use Rattle.hours.proofs.Laws.{pairIs}
 
 -- ---- a head: nothing is taken in yet
-begun-cells : (h : Head) (f : Values → ℕ) (most : ℕ) → f zeroes ≡ 0 → CellsKept (λ k. f (valuesAt (begun h) k)) most (table (λ k. 0) 2_208)
+begun-cells : (h : Head) (f : Values → ℕ) (most : ℕ) → f zeroes ≡ 0 → CellsKept (λ k. f (valuesAt (begun h) k)) most (table (λ k. 0) mostHours)
 begun-cells h f most z =
     let none : (k : ℕ) → f (valuesAt (begun h) k) ≡ 0 = λ k. ap f (begun-zero h k) ∙ z in
-    record { hold = table-same (λ k. 0) (λ k. f (valuesAt (begun h) k)) 2_208 (λ k m. sym (none k)); within = λ k. omega (arith, none k) }
+    record { hold = table-same (λ k. 0) (λ k. f (valuesAt (begun h) k)) mostHours (λ k m. sym (none k)); within = λ k. omega (arith, none k) }
 
-pub begun-books : (h : Head) (s : Sums) (runs measured : List ℕ) → h .days ≤ 92
-    → LineBooks (begun h) (openedSums s h) runs measured (table (λ k. 0) 2_208) (table (λ k. 0) 2_208) (table (λ k. 0) 2_208)
+pub begun-books : (h : Head) (runs measured : List ℕ) → h .days ≤ mostDays → (1 ≤ h .pollutant) × (h .pollutant ≤ totalCells)
+    → LineBooks (begun h) (openedSums h) (inOpen runs measured (table (λ k. 0) mostHours) (table (λ k. 0) mostHours) (table (λ k. 0) mostHours))
 unfolding begun runMasks measuredMasks surveys surveyed besides sulphurOf ashOf sumOf largest flagAt hasSurvey pick zeroes
-begun-books h s runs measured l =
+begun-books h runs measured l p =
     record {
       masks = record { runsKept = refl; measuredKept = refl };
-      concentrations = begun-cells h (λ v. v .c) 1_000_000 refl;
-      flows = begun-cells h (λ v. v .l) 5_000_000 refl;
-      surveys = record { flagged = refl; past = λ k m. table-zero 2_208 k; counted = refl; weighed = refl; most = omega arith };
+      concentrations = begun-cells h (λ v. v .c) mostConcentration refl;
+      flows = begun-cells h (λ v. v .l) mostFlow refl;
+      surveys = record { flagged = refl; past = λ k m. table-zero mostHours k; counted = refl; weighed = refl; most = omega arith };
       fuel = record { largest = refl; summed = refl; range = in-range-none };
       used = refl;
+      pollutant = p;
       period = l;
       days = omega arith;
       early = λ _. (refl, refl);
@@ -60,18 +62,18 @@ day-past : (x : Line) (d : Day) (h : ℕ) → 24 * length (x .days) + 24 ≤ h �
 unfolding withDay
 day-past x d h l = past-zero (withDay x d) h (omega arith)
 
-module _ (x : Line) (d : Day) {s : Sums} {runs measured flags conc flow : List ℕ} (k : LineBooks x s runs measured flags conc flow) (more : length (x .days) < x .head .days) where
+module _ (x : Line) (d : Day) {s : Sums} {o : Open} (k : LineBooks x s o) (more : length (x .days) < x .head .days) where
   abbrev n : ℕ
   n = length (x .days)
 
   old-hours : (h : ℕ) → h < 24 * n → valuesAt (withDay x d) h ≡ valuesAt x h
   old-hours h l = day-before x d (k .early more .0) (k .early more .1) h l
 
-  own-hours : (i : ℕ) → i < 24 → valuesAt (withDay x d) (24 * n + i) ≡ plain (slotOf d i)
+  own-hours : (i : ℕ) → i < 24 → valuesAt (withDay x d) (24 * n + i) ≡ inCell (slotOf d i)
   own-hours i l = day-own x d (k .early more .0) (k .early more .1) i l
 
   -- what holds of every hour before, of the day's own and of nothing holds of every hour after
-  day-all : (Q : Values → Type 0) → ((h : ℕ) → Q (valuesAt x h)) → ((i : ℕ) → i < 24 → Q (plain (slotOf d i))) → Q zeroes → (h : ℕ) → Q (valuesAt (withDay x d) h)
+  day-all : (Q : Values → Type 0) → ((h : ℕ) → Q (valuesAt x h)) → ((i : ℕ) → i < 24 → Q (inCell (slotOf d i))) → Q zeroes → (h : ℕ) → Q (valuesAt (withDay x d) h)
   day-all Q old own none h = go (decLt h (24 * n)) (decLt h (24 * n + 24))
     where
       go : Dec (h < 24 * n) → Dec (h < 24 * n + 24) → Q (valuesAt (withDay x d) h)
@@ -81,13 +83,13 @@ module _ (x : Line) (d : Day) {s : Sums} {runs measured flags conc flow : List �
           subst (λ (i : ℕ). Q (valuesAt (withDay x d) i)) e (subst Q (sym (own-hours (h - 24 * n) (omega arith))) (own (h - 24 * n) (omega arith)))
       go (no l) (no t) = subst Q (sym (day-past x d h (omega arith))) none
 
-  day-cells : (f : Values → ℕ) (most : ℕ) (v : ℕ → ℕ) (cells : List ℕ) → f zeroes ≡ 0 → ((i : ℕ) → i < 24 → f (plain (slotOf d i)) ≡ v i) → ((i : ℕ) → i < 24 → v i ≤ most)
-      → CellsKept (λ h. f (valuesAt x h)) most cells → CellsKept (λ h. f (valuesAt (withDay x d) h)) most (patched v 24 (24 * n) cells)
+  day-cells : (f : Values → ℕ) (most : ℕ) (v : ℕ → ℕ) (cells : List ℕ) → f zeroes ≡ 0 → ((i : ℕ) → i < 24 → f (inCell (slotOf d i)) ≡ v i) → ((i : ℕ) → i < 24 → v i ≤ most)
+      → CellsKept (λ h. f (valuesAt x h)) most cells → CellsKept (λ h. f (valuesAt (withDay x d) h)) most (putFrom v 24 (24 * n) cells)
   day-cells f most v cells z own limit c =
       record {
         hold =
-            ap (patched v 24 (24 * n)) (c .hold)
-            ∙ table-patch (λ h. f (valuesAt x h)) (λ h. f (valuesAt (withDay x d) h)) v (24 * n) 24 2_208 (omega (arith, k .period))
+            ap (putFrom v 24 (24 * n)) (c .hold)
+            ∙ table-patch (λ h. f (valuesAt x h)) (λ h. f (valuesAt (withDay x d) h)) v (24 * n) 24 mostHours (omega (arith, k .period))
             (λ h l. ap f (old-hours h l))
             (λ i l. ap f (own-hours i l) ∙ own i l)
             (λ h l. ap f (day-past x d h l) ∙ sym (ap f (past-zero x h (omega arith))));
@@ -95,22 +97,23 @@ module _ (x : Line) (d : Day) {s : Sums} {runs measured flags conc flow : List �
       }
 
   pub day-books : (cv lv : ℕ → ℕ)
-      → ((i : ℕ) → i < 24 → plain (slotOf d i) .c ≡ cv i) → ((i : ℕ) → i < 24 → plain (slotOf d i) .l ≡ lv i)
-      → ((i : ℕ) → i < 24 → cv i ≤ 1_000_000) → ((i : ℕ) → i < 24 → lv i ≤ 5_000_000) → length runs ≡ 92 → length measured ≡ 92
-      → LineBooks (withDay x d) s (set runs n (d .run)) (set measured n (d .measured)) flags (patched cv 24 (24 * n) conc) (patched lv 24 (24 * n) flow)
+      → ((i : ℕ) → i < 24 → inCell (slotOf d i) .c ≡ cv i) → ((i : ℕ) → i < 24 → inCell (slotOf d i) .l ≡ lv i)
+      → ((i : ℕ) → i < 24 → cv i ≤ mostConcentration) → ((i : ℕ) → i < 24 → lv i ≤ mostFlow) → Long o
+      → LineBooks (withDay x d) s (inOpen (set (o .runs) n (d .masks .run)) (set (o .measured) n (d .masks .measured)) (o .flags) (putFrom cv 24 (24 * n) (o .concentrations)) (putFrom lv 24 (24 * n) (o .flows)))
   unfolding runMasks measuredMasks withDay surveys surveyed zeroes
-  day-books cv lv cs ls cm lm rl ml =
+  day-books cv lv cs ls cm lm long =
       record {
         masks =
             record {
-              runsKept = take-suc-set runs n (d .run) (omega (arith, k .period)) ∙ ap (λ (t : List ℕ). t ++ (d .run ∷ [])) (k .masks .runsKept);
-              measuredKept = take-suc-set measured n (d .measured) (omega (arith, k .period)) ∙ ap (λ (t : List ℕ). t ++ (d .measured ∷ [])) (k .masks .measuredKept);
+              runsKept = take-suc-set (o .runs) n (d .masks .run) (omega (arith, k .period, long .runs)) ∙ ap (λ (t : List ℕ). t ++ (d .masks .run ∷ [])) (k .masks .runsKept);
+              measuredKept = take-suc-set (o .measured) n (d .masks .measured) (omega (arith, k .period, long .measured)) ∙ ap (λ (t : List ℕ). t ++ (d .masks .measured ∷ [])) (k .masks .measuredKept);
             };
-        concentrations = day-cells (λ w. w .c) 1_000_000 cv conc refl cs cm (k .concentrations);
-        flows = day-cells (λ w. w .l) 5_000_000 lv flow refl ls lm (k .flows);
+        concentrations = day-cells (λ w. w .c) mostConcentration cv (o .concentrations) refl cs cm (k .concentrations);
+        flows = day-cells (λ w. w .l) mostFlow lv (o .flows) refl ls lm (k .flows);
         surveys = k .surveys;
         fuel = k .fuel;
         used = k .used;
+        pollutant = k .pollutant;
         period = k .period;
         days = omega arith;
         early = λ _. k .early more;
@@ -158,7 +161,7 @@ module _ (x y : Line) (s : Survey)
     (other : (h : ℕ) → (h ≡ s .hour → ⊥) → valuesAt y h ≡ valuesAt x h)
     (own : runsAt (measuredMasks (x .days)) (s .hour) ≡ true → valuesAt y (s .hour) ≡ valuesOf (s .pair))
     (none : runsAt (measuredMasks (x .days)) (s .hour) ≡ false → valuesAt y (s .hour) ≡ valuesAt x (s .hour))
-    (within : s .hour < 2_208) (f : Values → ℕ) (most : ℕ) (limit : f (valuesOf (s .pair)) ≤ most)
+    (within : s .hour < mostHours) (f : Values → ℕ) (most : ℕ) (limit : f (valuesOf (s .pair)) ≤ most)
   where
     by-hour : (h : ℕ) (b : Bool) → eqb h (s .hour) ≡ b → runsAt (measuredMasks (x .days)) (s .hour) ≡ false → f (valuesAt y h) ≡ f (valuesAt x h)
     by-hour h true q t = let z = eqb-true h (s .hour) q in ap (λ (k : ℕ). f (valuesAt y k)) z ∙ ap f (none t) ∙ ap (λ (k : ℕ). f (valuesAt x k)) (sym z)
@@ -175,12 +178,12 @@ module _ (x y : Line) (s : Survey)
         record {
           hold =
               ap (λ (l : List ℕ). set l (s .hour) (f (valuesOf (s .pair)))) (c .hold)
-              ∙ table-set (λ h. f (valuesAt x h)) (λ h. f (valuesAt y h)) 2_208 (s .hour) (f (valuesOf (s .pair))) 0 within (ap f (own t)) (λ h n. ap f (other h n));
+              ∙ table-set (λ h. f (valuesAt x h)) (λ h. f (valuesAt y h)) mostHours (s .hour) (f (valuesOf (s .pair))) 0 within (ap f (own t)) (λ h n. ap f (other h n));
           within = λ h. own-within h (eqb h (s .hour)) refl t (c .within h);
         }
     by-mask false t cells c =
         record {
-          hold = c .hold ∙ table-same (λ h. f (valuesAt x h)) (λ h. f (valuesAt y h)) 2_208 (λ h l. sym (by-hour h (eqb h (s .hour)) refl t));
+          hold = c .hold ∙ table-same (λ h. f (valuesAt x h)) (λ h. f (valuesAt y h)) mostHours (λ h l. sym (by-hour h (eqb h (s .hour)) refl t));
           within = λ h. omega (arith, by-hour h (eqb h (s .hour)) refl t, c .within h);
         }
 
@@ -192,10 +195,10 @@ module _ (x y : Line) (s : Survey)
 abbrev withSurveys : Line → List Survey → List Survey → Line
 withSurveys x es ps = record { head = x .head; days = x .days; enforcement = es; plant = ps; batches = x .batches }
 
-survey-books : (x : Line) (es ps : List Survey) (t' : Sums) {t : Sums} {runs measured flags flags' conc conc' flow flow' : List ℕ} → LineBooks x t runs measured flags conc flow
-    → length (x .days) ≡ x .head .days → length es + length ps ≤ 120 → t' .sulphur ≡ t .sulphur → t' .ash ≡ t .ash → t' .used ≡ t .used
-    → CellsKept (λ h. valuesAt (withSurveys x es ps) h .c) 1_000_000 conc' → CellsKept (λ h. valuesAt (withSurveys x es ps) h .l) 5_000_000 flow'
-    → SurveysKept (x .head .days) es (surveyed (withSurveys x es ps)) (t' .surveyed) (t' .weight) flags' → LineBooks (withSurveys x es ps) t' runs measured flags' conc' flow'
+survey-books : (x : Line) (es ps : List Survey) (t' : Sums) {t : Sums} {o : Open} {flags' conc' flow' : List ℕ} → LineBooks x t o
+    → length (x .days) ≡ x .head .days → length es + length ps ≤ mostSurveys → t' .sulphur ≡ t .sulphur → t' .ash ≡ t .ash → t' .used ≡ t .used
+    → CellsKept (λ h. valuesAt (withSurveys x es ps) h .c) mostConcentration conc' → CellsKept (λ h. valuesAt (withSurveys x es ps) h .l) mostFlow flow'
+    → SurveysKept (x .head .days) es (surveyed (withSurveys x es ps)) (t' .surveyed) (t' .weight) flags' → LineBooks (withSurveys x es ps) t' (inOpen (o .runs) (o .measured) flags' conc' flow')
 unfolding surveys
 survey-books x es ps t' k all-days few s a u c l y =
     record {
@@ -205,6 +208,7 @@ survey-books x es ps t' k all-days few s a u c l y =
       surveys = y;
       fuel = rw (s, a) (k .fuel);
       used = u ∙ k .used;
+      pollutant = k .pollutant;
       period = k .period;
       days = k .days;
       early = λ m. absurd (omega arith);
@@ -212,7 +216,7 @@ survey-books x es ps t' k all-days few s a u c l y =
     }
 
 -- ---- an enforcement survey
-module _ (x : Line) (s : Survey) (within : s .hour < 2_208) where
+module _ (x : Line) (s : Survey) (within : s .hour < mostHours) where
   abbrev e-line : Line
   e-line = withEnforcement x s
 
@@ -231,37 +235,38 @@ module _ (x : Line) (s : Survey) (within : s .hour < 2_208) where
   unfolding flagAt hasSurvey pick
   e-flag-own = rw (eq-eqb (s .hour) (s .hour) refl)
 
-  module _ {t : Sums} {runs measured flags conc flow : List ℕ} (k : LineBooks x t runs measured flags conc flow)
-      (all-days : length (x .days) ≡ x .head .days) (no-plant : x .plant ≡ []) (room : surveys x < 120)
-      (cm : valuesOf (s .pair) .c ≤ 1_000_000) (lm : valuesOf (s .pair) .l ≤ 5_000_000)
+  module _ {t : Sums} {o : Open} (k : LineBooks x t o)
+      (all-days : length (x .days) ≡ x .head .days) (no-plant : x .plant ≡ []) (room : surveys x < mostSurveys)
+      (cm : valuesOf (s .pair) .c ≤ mostConcentration) (lm : valuesOf (s .pair) .l ≤ mostFlow)
     where
       e-surveys : s .hour < 24 * x .head .days
-          → SurveysKept (x .head .days) (s ∷ x .enforcement) (surveyed (withEnforcement x s)) (t .surveyed + 1) (valuesOf (s .pair) .c * valuesOf (s .pair) .l + t .weight) (set flags (s .hour) 1)
+          → SurveysKept (x .head .days) (s ∷ x .enforcement) (surveyed (withEnforcement x s)) (t .surveyed + 1) (valuesOf (s .pair) .c * valuesOf (s .pair) .l + t .weight) (set (o .flags) (s .hour) 1)
       unfolding sumOf amount surveyValues
       e-surveys early =
           let y = k .surveys in
           let e = enforced x s no-plant in
           record {
-            flagged = ap (λ (l : List ℕ). set l (s .hour) 1) (y .flagged) ∙ table-set (flagAt (x .enforcement)) (flagAt (s ∷ x .enforcement)) 2_208 (s .hour) 1 0 within e-flag-own e-flag;
-            past = λ h m. getD-set-other flags (s .hour) h 1 0 (λ q. absurd (omega (arith, q, m, early))) ∙ y .past h m;
+            flagged = ap (λ (l : List ℕ). set l (s .hour) 1) (y .flagged) ∙ table-set (flagAt (x .enforcement)) (flagAt (s ∷ x .enforcement)) mostHours (s .hour) 1 0 within e-flag-own e-flag;
+            past = λ h m. getD-set-other (o .flags) (s .hour) h 1 0 (λ q. absurd (omega (arith, q, m, early))) ∙ y .past h m;
             counted = ap (λ (m : ℕ). m + 1) (y .counted) ∙ add-one (length (surveyed x)) ∙ sym (ap length e);
             weighed = ap (λ (m : ℕ). valuesOf (s .pair) .c * valuesOf (s .pair) .l + m) (y .weighed) ∙ sym (ap (sumOf (λ u. amount (surveyValues u))) e);
-            most = subst (λ (l : List Survey). sumOf (λ u. amount (surveyValues u)) l ≤ length l * 5_000_000_000_000) (sym e) (omega (arith, y .most, mul-le-mul cm lm));
+            most = subst (λ (l : List Survey). sumOf (λ u. amount (surveyValues u)) l ≤ length l * mostAmount) (sym e) (omega (arith, y .most, mul-le-mul cm lm));
           }
 
       pub enforcement-books : s .hour < 24 * x .head .days
-          → LineBooks (withEnforcement x s) (withSurvey t (standing (valuesOf (s .pair) .c) (valuesOf (s .pair) .l))) runs measured (set flags (s .hour) 1)
-          (pick (runsAt (measuredMasks (x .days)) (s .hour)) (set conc (s .hour) (valuesOf (s .pair) .c)) conc)
-          (pick (runsAt (measuredMasks (x .days)) (s .hour)) (set flow (s .hour) (valuesOf (s .pair) .l)) flow)
+          → LineBooks (withEnforcement x s) (withSurvey t (standing (valuesOf (s .pair) .c) (valuesOf (s .pair) .l)))
+          (inOpen (o .runs) (o .measured) (set (o .flags) (s .hour) 1)
+          (pick (runsAt (measuredMasks (x .days)) (s .hour)) (set (o .concentrations) (s .hour) (valuesOf (s .pair) .c)) (o .concentrations))
+          (pick (runsAt (measuredMasks (x .days)) (s .hour)) (set (o .flows) (s .hour) (valuesOf (s .pair) .l)) (o .flows)))
       unfolding withEnforcement surveys
       enforcement-books early =
           survey-books x (s ∷ x .enforcement) (x .plant) _ k all-days (omega arith) refl refl refl
-          (survey-cells x e-line s (enforcement-other x s) e-own e-none within (λ v. v .c) 1_000_000 cm conc (k .concentrations))
-          (survey-cells x e-line s (enforcement-other x s) e-own e-none within (λ v. v .l) 5_000_000 lm flow (k .flows))
+          (survey-cells x e-line s (enforcement-other x s) e-own e-none within (λ v. v .c) mostConcentration cm (o .concentrations) (k .concentrations))
+          (survey-cells x e-line s (enforcement-other x s) e-own e-none within (λ v. v .l) mostFlow lm (o .flows) (k .flows))
           (e-surveys early)
 
 -- ---- a plant survey where no enforcement survey stands, and one that is beaten
-module _ (x : Line) (s : Survey) (within : s .hour < 2_208) where
+module _ (x : Line) (s : Survey) (within : s .hour < mostHours) where
   abbrev p-line : Line
   p-line = withPlant x s
 
@@ -283,19 +288,19 @@ module _ (x : Line) (s : Survey) (within : s .hour < 2_208) where
   beaten-cells : hasSurvey (s .hour) (x .enforcement) ≡ true → (f : Values → ℕ) (most : ℕ) (cells : List ℕ) → CellsKept (λ h. f (valuesAt x h)) most cells → CellsKept (λ h. f (valuesAt p-line h)) most cells
   beaten-cells t f most cells c =
       record {
-        hold = c .hold ∙ table-same (λ h. f (valuesAt x h)) (λ h. f (valuesAt p-line h)) 2_208 (λ h l. sym (ap f (beaten-all t h)));
+        hold = c .hold ∙ table-same (λ h. f (valuesAt x h)) (λ h. f (valuesAt p-line h)) mostHours (λ h l. sym (ap f (beaten-all t h)));
         within = λ h. omega (arith, ap f (beaten-all t h), c .within h);
       }
 
-  module _ {t : Sums} {runs measured flags conc flow : List ℕ} (k : LineBooks x t runs measured flags conc flow) (all-days : length (x .days) ≡ x .head .days) (room : surveys x < 120) where
-    pub beaten-books : hasSurvey (s .hour) (x .enforcement) ≡ true → LineBooks (withPlant x s) t runs measured flags conc flow
+  module _ {t : Sums} {o : Open} (k : LineBooks x t o) (all-days : length (x .days) ≡ x .head .days) (room : surveys x < mostSurveys) where
+    pub beaten-books : hasSurvey (s .hour) (x .enforcement) ≡ true → LineBooks (withPlant x s) t o
     unfolding withPlant surveys
     beaten-books beaten =
         survey-books x (x .enforcement) (s ∷ x .plant) t k all-days (omega arith) refl refl refl
-        (beaten-cells beaten (λ v. v .c) 1_000_000 conc (k .concentrations)) (beaten-cells beaten (λ v. v .l) 5_000_000 flow (k .flows))
-        (subst (λ (l : List Survey). SurveysKept (x .head .days) (x .enforcement) l (t .surveyed) (t .weight) flags) (sym (planted-second x s beaten)) (k .surveys))
+        (beaten-cells beaten (λ v. v .c) mostConcentration (o .concentrations) (k .concentrations)) (beaten-cells beaten (λ v. v .l) mostFlow (o .flows) (k .flows))
+        (subst (λ (l : List Survey). SurveysKept (x .head .days) (x .enforcement) l (t .surveyed) (t .weight) (o .flags)) (sym (planted-second x s beaten)) (k .surveys))
 
-    module _ (free : hasSurvey (s .hour) (x .enforcement) ≡ false) (cm : valuesOf (s .pair) .c ≤ 1_000_000) (lm : valuesOf (s .pair) .l ≤ 5_000_000) where
+    module _ (free : hasSurvey (s .hour) (x .enforcement) ≡ false) (cm : valuesOf (s .pair) .c ≤ mostConcentration) (lm : valuesOf (s .pair) .l ≤ mostFlow) where
       planted-length : length (surveyed (withPlant x s)) ≡ suc (length (surveyed x))
       unfolding surveyed
       planted-length = ap length (planted x s free) ∙ length-middle (x .enforcement) (besides (x .enforcement) (x .plant)) s
@@ -304,7 +309,7 @@ module _ (x : Line) (s : Survey) (within : s .hour < 2_208) where
       unfolding surveyed
       planted-sum = ap (sumOf (λ u. amount (surveyValues u))) (planted x s free) ∙ sum-middle (λ u. amount (surveyValues u)) (x .enforcement) (besides (x .enforcement) (x .plant)) s
 
-      p-surveys : SurveysKept (x .head .days) (x .enforcement) (surveyed (withPlant x s)) (t .surveyed + 1) (valuesOf (s .pair) .c * valuesOf (s .pair) .l + t .weight) flags
+      p-surveys : SurveysKept (x .head .days) (x .enforcement) (surveyed (withPlant x s)) (t .surveyed + 1) (valuesOf (s .pair) .c * valuesOf (s .pair) .l + t .weight) (o .flags)
       unfolding amount surveyValues
       p-surveys =
           let y = k .surveys in
@@ -316,19 +321,20 @@ module _ (x : Line) (s : Survey) (within : s .hour < 2_208) where
             most = omega (arith, planted-sum, planted-length, y .most, mul-le-mul cm lm);
           }
 
-      pub plant-books : LineBooks (withPlant x s) (withSurvey t (standing (valuesOf (s .pair) .c) (valuesOf (s .pair) .l))) runs measured flags
-          (pick (runsAt (measuredMasks (x .days)) (s .hour)) (set conc (s .hour) (valuesOf (s .pair) .c)) conc)
-          (pick (runsAt (measuredMasks (x .days)) (s .hour)) (set flow (s .hour) (valuesOf (s .pair) .l)) flow)
+      pub plant-books : LineBooks (withPlant x s) (withSurvey t (standing (valuesOf (s .pair) .c) (valuesOf (s .pair) .l)))
+          (inOpen (o .runs) (o .measured) (o .flags)
+          (pick (runsAt (measuredMasks (x .days)) (s .hour)) (set (o .concentrations) (s .hour) (valuesOf (s .pair) .c)) (o .concentrations))
+          (pick (runsAt (measuredMasks (x .days)) (s .hour)) (set (o .flows) (s .hour) (valuesOf (s .pair) .l)) (o .flows)))
       unfolding withPlant surveys
       plant-books =
           survey-books x (x .enforcement) (s ∷ x .plant) _ k all-days (omega arith) refl refl refl
-          (survey-cells x p-line s (plant-other x s) (p-own free) (p-none free) within (λ v. v .c) 1_000_000 cm conc (k .concentrations))
-          (survey-cells x p-line s (plant-other x s) (p-own free) (p-none free) within (λ v. v .l) 5_000_000 lm flow (k .flows))
+          (survey-cells x p-line s (plant-other x s) (p-own free) (p-none free) within (λ v. v .c) mostConcentration cm (o .concentrations) (k .concentrations))
+          (survey-cells x p-line s (plant-other x s) (p-own free) (p-none free) within (λ v. v .l) mostFlow lm (o .flows) (k .flows))
           p-surveys
 
 -- ---- a batch: no hour and no survey changes
-pub batch-books : (x : Line) (f : Batch) {t : Sums} {runs measured flags conc flow : List ℕ} → LineBooks x t runs measured flags conc flow
-    → f .kg + fuel (x .batches) ≤ 10_000_000_000 → f .sulphur ≤ 2_000 → f .ash ≤ 10_000 → LineBooks (withBatch x f) (withFuel t f) runs measured flags conc flow
+pub batch-books : (x : Line) (f : Batch) {t : Sums} {o : Open} → LineBooks x t o
+    → f .kg + fuel (x .batches) ≤ mostFuel → f .sulphur ≤ mostSulphur → f .ash ≤ mostAsh → LineBooks (withBatch x f) (withFuel t f) o
 unfolding withBatch valuesAt surveys surveyed sulphurOf ashOf sumOf largest
 batch-books x f k most sm am =
     record {
@@ -343,6 +349,7 @@ batch-books x f k most sm am =
             range = in-range-more f (x .batches) (k .fuel .range) most sm am;
           };
       used = k .used;
+      pollutant = k .pollutant;
       period = k .period;
       days = k .days;
       early = k .early;

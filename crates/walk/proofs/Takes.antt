@@ -6,38 +6,35 @@ use Prim.Native.Nat.{ℕ, zero, suc, _+_, _*_, _<_, _≤_}
 use native.Mathlib.Omega.{arith}
 use lib.ListN.{length, take}
 use Rattle.rules.specs.declared.Head.{Head}
+use Rattle.rules.specs.declared.Masks.{Masks}
+use Rattle.rules.specs.declared.Record.{Record}
+use Rattle.rules.specs.declared.Record.the-variants.{Bad, OfHead, OfDay, OfEnforcement, OfPlant, OfBatch, OfEnd}
 use Rattle.rules.specs.declared.Survey.{Survey}
 use Rattle.rules.specs.declared.Batch.{Batch}
 use Rattle.rules.specs.declared.View.{View}
 use Rattle.rules.specs.declared.Coefficients.{Coefficients}
 use Rattle.rules.specs.declared.Coefficients.the-variants.{Balance, Oxides, Dust, NoEntry}
+use Rattle.law.specs.Numbers.{hoursOfDay, mostDays, mostHours, mostLines, totalCells, mostSurveys, mostBatches, mostAsh, mostFuel, mostAmount, mostGrams}
 use Rattle.rules.specs.Grams.{sulphurOf}
-use Rattle.rules.specs.Records.{Day, dayOf, recordIn}
+use Rattle.rules.specs.Records.{masksOf, dayOf, recordIn}
 use Rattle.rules.specs.Hours.{runMasks, measuredMasks, runsAt, firstMissing, running, lacking}
 use Rattle.rules.specs.Lines.{Line, surveys, fuel}
 use Rattle.rules.specs.Method.{isAutomatic, isManual, methodOf, method}
 use Rattle.rules.specs.Tables.{coefficientsOf}
-use Rattle.law.specs.Words.{seek}
 use lib.Dec.{eqb}
-use Rattle.law.proofs.Tests.{need-eq, pick-case}
-use Rattle.rules.specs.declared.Fault.{Fault}
-use Rattle.rules.specs.Judge.{fine, first, judgeHour, judgeHours}
-use Rattle.faults.proofs.Laws.{Stands, stands-fine, stands-pick}
-use Rattle.day.proofs.Hours.{hour-stands}
+use Rattle.law.proofs.Tests.{pick-case}
+use Rattle.rules.specs.Judge.{fine, lineMethod, judgeHours, judgeRecord, judgeReadings}
+use Rattle.rules.proofs.Faults.{Stands, stands-zero}
 use Rattle.rules.specs.Walk.{Stand, Between, Inside, viewOf, runsOf, taken, takenBetween, takenInside}
-use Rattle.record.specs.declared.DayMasks.{DayMasks}
-use Rattle.record.specs.declared.Record.{Record}
-use Rattle.record.specs.declared.Record.the-variants.{Bad, OfHead, OfDay, OfEnforcement, OfPlant, OfBatch, OfEnd}
-use Rattle.record.specs.Flat.{flat, masksOf}
-use Rattle.record.proofs.Laws.{record-case, day-in}
+use Rattle.record.proofs.Laws.{day-in}
 use Rattle.day.proofs.Laws.{PairAccepted}
-use Rattle.judge.proofs.Laws.{SurveyOk, EndOk, head-ok, day-ok, enforcement-ok, plant-ok, batch-ok, end-ok, bad-refused}
+use Rattle.judge.proofs.Laws.{SurveyOk, EndOk, readings-stand, head-ok, day-ok, enforcement-ok, plant-ok, batch-ok, end-ok, bad-refused}
 use Rattle.hours.proofs.Laws.{running-period, missing-period}
 use Rattle.walk.specs.declared.books.Sums.{Sums}
 use Rattle.walk.specs.declared.take.Taken.{Taken}
-use Rattle.walk.specs.Books.{Kept}
+use Rattle.walk.specs.Books.{Open, inOpen, Done, Kept}
 use Rattle.walk.specs.Taking.{HeadTaken, DayTaken, EnforcementTaken, PlantTaken, BatchTaken, EndReady, EndTaken}
-use Rattle.walk.specs.Walking.{whole, laterFault, Ready, Took}
+use Rattle.walk.specs.Walking.{Ready, Took}
 use Rattle.walk.proofs.Standing.{kept-head, kept-day, kept-enforcement, kept-plant, kept-batch}
 use Rattle.walk.proofs.Ending.{method-is, cells-most, kept-end}
 use Rattle.walk.proofs.Masks.{runs-kept, states-kept, first-kept}
@@ -45,33 +42,10 @@ use Rattle.walk.proofs.Steps.{surveyed-most}
 use Rattle.rules.proofs.Method.{manual-surveyed}
 use Rattle.walk.specs.Closing.{gramsIn}
 use Rattle.period.specs.Period.{periodStates}
-use Rattle.method.specs.Open.{lineMethod}
 use Rattle.fuel.specs.Fuel.{fuelFigure, ashOf, InRange}
 use Rattle.fuel.specs.declared.FuelFigure.{FuelFigure}
 use Rattle.fuel.proofs.Figures.{line-figure, line-wanting, grams-fit}
 use Rattle.walk.proofs.Views.{survey-count}
-
--- ---- the record that is read is the one that the code's stands for
-whole-flat : (bytes : List ℕ) → whole bytes (flat (recordIn bytes)) ≡ recordIn bytes
-unfolding whole flat
-whole-flat bytes = record-case (λ x. whole bytes (flat x) ≡ x) bytes refl (λ _. refl) (λ _. refl) (λ _. refl) (λ _. refl) (λ _. refl) (λ _. refl)
-
-pub whole-is : (bytes : List ℕ) (r : Record) → r ≡ flat (recordIn bytes) → whole bytes r ≡ recordIn bytes
-whole-is bytes r e = ap (whole bytes) e ∙ whole-flat bytes
-
--- ---- a fault of number 0 is none
-pub stands-zero : (f : Fault) → Stands f → f .number ≡ 0 → f ≡ fine
-unfolding first
-stands-zero f s z = sym s ∙ sym (need-eq f fine fine (f .number) 0 z refl)
-
-seek-stands : (hit : ℕ → Bool) (answer : ℕ → Fault) → ((h : ℕ) → Stands (answer h)) → (i n : ℕ) → Stands (seek hit answer fine i n)
-unfolding seek
-seek-stands hit answer a i zero = stands-fine
-seek-stands hit answer a i (suc n) = stands-pick (hit i) (answer i) (seek hit answer fine (suc i) n) (a i) (seek-stands hit answer a (suc i) n)
-
-hours-stand : (place : ℕ) (d : Day) → Stands (judgeHours place d)
-unfolding judgeHours
-hours-stand place d = seek-stands _ (judgeHour place d) (hour-stands place d) 0 24
 
 -- ---- inside a line or between two
 between-out : (done : List Line) (v : View) → v ≡ viewOf (Between done) → v .inside ≡ true → ⊥
@@ -82,7 +56,17 @@ inside-in : (x : Line) (done : List Line) (v : View) → v ≡ viewOf (Inside x 
 unfolding viewOf
 inside-in x done v e t = true≢false (sym (ap (λ (w : View). w .inside) e) ∙ t)
 
-lines-left : (done : List Line) (v : View) → v ≡ viewOf (Between done) → v .lines < 48 → length done < 48
+-- a record that only an open line takes finds one: what holds wherever a line is open holds where the walk stands
+in-line : (stand : Stand) (v : View) → v ≡ viewOf stand → v .inside ≡ true → (P : Stand → Type 0) → ((x : Line) (done : List Line) → P (Inside x done)) → P stand
+in-line (Between done) v e t P f = absurd (between-out done v e t)
+in-line (Inside x done) v e t P f = f x done
+
+-- and a head finds none
+between-lines : (stand : Stand) (v : View) → v ≡ viewOf stand → v .inside ≡ false → (P : Stand → Type 0) → ((done : List Line) → P (Between done)) → P stand
+between-lines (Between done) v e t P f = f done
+between-lines (Inside x done) v e t P f = absurd (inside-in x done v e t)
+
+lines-left : (done : List Line) (v : View) → v ≡ viewOf (Between done) → v .lines < mostLines → length done < mostLines
 unfolding viewOf
 lines-left done v e l = omega (arith, ap (λ (w : View). w .lines) e)
 
@@ -111,74 +95,75 @@ module _ (h : Head) (batches : List Batch) (i : InRange batches) where
   abbrev figureNow : FuelFigure
   figureNow = fuelFigure h (fuel batches) (sulphurOf batches) (ashOf batches)
 
-  found-most : (coefficientsOf h ≡ NoEntry → ⊥) → gramsIn figureNow ≤ 20_000_000_000_000
-  found-most n = subst (λ (f : FuelFigure). gramsIn f ≤ 20_000_000_000_000) (sym (line-figure h batches i n)) (omega (arith, grams-fit h batches i))
+  found-most : (coefficientsOf h ≡ NoEntry → ⊥) → gramsIn figureNow ≤ mostGrams
+  found-most n = subst (λ (f : FuelFigure). gramsIn f ≤ mostGrams) (sym (line-figure h batches i n)) (omega (arith, grams-fit h batches i))
 
-  fuel-by : (c : Coefficients) → coefficientsOf h ≡ c → gramsIn figureNow ≤ 20_000_000_000_000
-  fuel-by NoEntry e = subst (λ (f : FuelFigure). gramsIn f ≤ 20_000_000_000_000) (sym (line-wanting h batches i e)) (omega arith)
+  fuel-by : (c : Coefficients) → coefficientsOf h ≡ c → gramsIn figureNow ≤ mostGrams
+  fuel-by NoEntry e = subst (λ (f : FuelFigure). gramsIn f ≤ mostGrams) (sym (line-wanting h batches i e)) (omega arith)
   fuel-by (Balance q k) e = found-most (λ z. let t : _≡_ {A = ℕ} 0 1 = cc in omega arith)
   fuel-by (Oxides q) e = found-most (λ z. let t : _≡_ {A = ℕ} 0 1 = cc in omega arith)
   fuel-by (Dust q k) e = found-most (λ z. let t : _≡_ {A = ℕ} 0 1 = cc in omega arith)
 
-  fuel-most : gramsIn figureNow ≤ 20_000_000_000_000
+  fuel-most : gramsIn figureNow ≤ mostGrams
   fuel-most = fuel-by (coefficientsOf h) refl
 
 days-all : (x : Line) (done : List Line) {v : View} → v ≡ viewOf (Inside x done) → v .days ≡ v .head .days → length (x .days) ≡ x .head .days
 unfolding viewOf
 days-all x done e d = sym (ap (λ (w : View). w .days) e) ∙ d ∙ ap (λ (w : View). w .head .days) e
 
-module _ (at : ℕ) (bytes : List ℕ) (v : View) (s : Sums) (runs measured flags conc flow out : List ℕ) where
-  -- ---- a head
-  pub ready-head : (stand : Stand) (r : Record) (h : Head) → r ≡ OfHead h → Ready stand at bytes r v s runs measured flags conc flow out → (s .used ≤ 2_208) × (length conc ≡ 2_208) × (length flow ≡ 2_208)
-  ready-head (Between done) r h q k = let y = k .kept in (y .books .usedMost, y .concLong, y .flowLong)
-  ready-head (Inside x done) r h q k =
-      absurd (inside-in x done v (k .kept .view) (head-ok at v (runsOf (Inside x done)) h (rw q at (k .passed)) .outside))
+module _ (bytes : List ℕ) (v : View) (s : Sums) (o : Open) (d : Done) where
+  -- the record as it is judged
+  judged : (stand : Stand) (r q : Record) → r ≡ q → Ready stand bytes r v s o d → judgeRecord v (runsOf stand) q ≡ fine
+  judged stand r q e k = ap (judgeRecord v (runsOf stand)) (sym e) ∙ k .passed
 
-  pub took-head : (stand : Stand) (r : Record) (h : Head) (flags' conc' flow' : List ℕ) (t : Taken) → r ≡ OfHead h → Ready stand at bytes r v s runs measured flags conc flow out
-      → HeadTaken v s h flags conc flow flags' conc' flow' t → Took stand at bytes r t runs measured flags' conc' flow' out
-  unfolding taken takenBetween whole laterFault
-  took-head (Between done) r h flags' conc' flow' t q k e =
-      let ok = head-ok at v (runsOf (Between done)) h (rw q at (k .passed)) in
-      rw q (record {
-        faults = e .faults;
-        stays = λ _. kept-head done v s h runs measured flags conc flow out flags' conc' flow' t (k .kept) (ok .days-most) (lines-left done v (k .kept .view) (ok .room)) e;
-      })
-  took-head (Inside x done) r h flags' conc' flow' t q k e =
-      absurd (inside-in x done v (k .kept .view) (head-ok at v (runsOf (Inside x done)) h (rw q at (k .passed)) .outside))
+  -- a record without readings to judge is taken in
+  took-other : (stand : Stand) (r q : Record) (t : Taken) (o' : Open) (d' : Done) → r ≡ q → t .fault ≡ fine → judgeReadings bytes q ≡ fine → Kept (taken stand bytes q) (t .view) (t .sums) o' d' → Took stand bytes r t o' d'
+  took-other stand r q t o' d' e f j k = rw e (record { faults = f ∙ sym j; stays = λ _. k })
+
+  -- ---- a head
+  pub ready-head : (stand : Stand) (r : Record) (h : Head) → r ≡ OfHead h → Ready stand bytes r v s o d → (s .used ≤ mostHours) × (length (o .concentrations) ≡ mostHours) × (length (o .flows) ≡ mostHours)
+  ready-head stand r h q k =
+      between-lines stand v (k .kept .view) (head-ok v (runsOf stand) h (judged stand r (OfHead h) q k) .outside)
+      (λ a. Kept a v s o d → (s .used ≤ mostHours) × (length (o .concentrations) ≡ mostHours) × (length (o .flows) ≡ mostHours))
+      (λ done y. (y .books .usedMost, y .long .concentrations, y .long .flows)) (k .kept)
+
+  pub took-head : (stand : Stand) (r : Record) (h : Head) (flags' conc' flow' : List ℕ) (t : Taken) → r ≡ OfHead h → Ready stand bytes r v s o d
+      → HeadTaken v s h (o .flags) (o .concentrations) (o .flows) flags' conc' flow' t → Took stand bytes r t (inOpen (o .runs) (o .measured) flags' conc' flow') d
+  unfolding taken takenBetween judgeReadings
+  took-head stand r h flags' conc' flow' t q k e =
+      let ok = head-ok v (runsOf stand) h (judged stand r (OfHead h) q k) in
+      took-other stand r (OfHead h) t _ d q (e .faults) refl
+      (between-lines stand v (k .kept .view) (ok .outside) (λ a. Kept a v s o d → Kept (taken a bytes (OfHead h)) (t .view) (t .sums) (inOpen (o .runs) (o .measured) flags' conc' flow') d)
+      (λ done y. kept-head done v s h o d flags' conc' flow' t y (ok .days-most) (ok .pollutant-least, ok .pollutant-most) (lines-left done v (y .view) (ok .room)) e) (k .kept))
 
   -- ---- a day
-  masks-read : (r : Record) (m : DayMasks) → r ≡ OfDay m → r ≡ flat (recordIn bytes) → m ≡ masksOf (dayOf bytes)
-  unfolding flat
-  masks-read r m q e =
-      let d : OfDay m ≡ OfDay (masksOf (dayOf bytes)) = sym q ∙ e ∙ ap flat (day-in bytes m (sym e ∙ q)) in cc
-
-  day-facts : (x : Line) (done : List Line) (m : DayMasks) → v ≡ viewOf (Inside x done) → v .days < v .head .days → m .number ≡ v .days
-      → (length (x .days) < x .head .days) × (m .number ≡ length (x .days))
+  day-facts : (x : Line) (done : List Line) (m : Masks) → v ≡ viewOf (Inside x done) → v .days < v .head .days → m .day ≡ v .days
+      → (length (x .days) < x .head .days) × (m .day ≡ length (x .days))
   unfolding viewOf
   day-facts x done m e l n = (omega (arith, ap (λ (w : View). w .days) e, ap (λ (w : View). w .head .days) e), n ∙ ap (λ (w : View). w .days) e)
 
-  pub took-day : (stand : Stand) (r : Record) (m : DayMasks) (runs' measured' conc' flow' : List ℕ) (t : Taken) → r ≡ OfDay m → Ready stand at bytes r v s runs measured flags conc flow out
-      → DayTaken at bytes v s m runs measured conc flow runs' measured' conc' flow' t → Took stand at bytes r t runs' measured' flags conc' flow' out
-  unfolding taken takenInside whole laterFault masksOf
-  took-day (Between done) r m runs' measured' conc' flow' t q k e =
-      absurd (between-out done v (k .kept .view) (day-ok at v (runsOf (Between done)) m (rw q at (k .passed)) .inside))
-  took-day (Inside x done) r m runs' measured' conc' flow' t q k e =
-      let ok = day-ok at v (runsOf (Inside x done)) m (rw q at (k .passed)) in
-      let f = day-facts x done m (k .kept .view) (ok .room) (ok .turn) in
-      let n = masks-read r m q (k .read) in
+  pub took-day : (stand : Stand) (r : Record) (m : Masks) (runs' measured' conc' flow' : List ℕ) (t : Taken) → r ≡ OfDay m → Ready stand bytes r v s o d
+      → DayTaken bytes v s m (o .runs) (o .measured) (o .concentrations) (o .flows) runs' measured' conc' flow' t → Took stand bytes r t (inOpen runs' measured' (o .flags) conc' flow') d
+  unfolding taken takenInside judgeReadings
+  took-day stand r m runs' measured' conc' flow' t q k e =
+      let ok = day-ok v (runsOf stand) m (judged stand r (OfDay m) q k) in
+      let n = day-in bytes m (sym (k .read) ∙ q) .1 in
       rw q (record {
         faults = e .faults;
         stays = λ z.
-            kept-day x done at bytes v s runs measured flags conc flow out runs' measured' conc' flow' t (k .kept) (f .0) (sym (ap (λ (w : DayMasks). w .number) n) ∙ f .1)
-            (subst (λ (w : DayMasks). DayTaken at bytes v s w runs measured conc flow runs' measured' conc' flow' t) n e) z
-            (sym (e .faults) ∙ stands-zero (t .fault) (subst Stands (sym (e .faults)) (hours-stand at (dayOf bytes))) z);
+            in-line stand v (k .kept .view) (ok .inside) (λ a. Kept a v s o d → Kept (taken a bytes (OfDay m)) (t .view) (t .sums) (inOpen runs' measured' (o .flags) conc' flow') d)
+            (λ x done y.
+            let f = day-facts x done m (y .view) (ok .room) (ok .turn) in
+            kept-day x done bytes v s o d runs' measured' conc' flow' t y (f .0) (sym (ap (λ (w : Masks). w .day) n) ∙ f .1)
+            (subst (λ (w : Masks). DayTaken bytes v s w (o .runs) (o .measured) (o .concentrations) (o .flows) runs' measured' conc' flow' t) n e) z
+            (sym (e .faults) ∙ stands-zero (t .fault) (subst Stands (sym (e .faults)) (readings-stand bytes (OfDay m))) z)) (k .kept);
       })
 
   -- ---- surveys
   pub record SurveyFacts (x : Line) (t : Survey) : Type 0 where
-    pub hour : t .hour < 24 * x .head .days
+    pub hour : t .hour < hoursOfDay * x .head .days
     pub all-days : length (x .days) ≡ x .head .days
-    pub room : surveys x < 120
+    pub room : surveys x < mostSurveys
     pub pair : PairAccepted (t .pair)
 
   survey-facts : (x : Line) (done : List Line) (t : Survey) → v ≡ viewOf (Inside x done) → SurveyOk v t → SurveyFacts x t
@@ -192,56 +177,45 @@ module _ (at : ℕ) (bytes : List ℕ) (v : View) (s : Sums) (runs measured flag
       }
 
   -- whether a survey's hour is measured, by the masks that are kept
-  measured-here : (x : Line) (done : List Line) (t : Survey) → Kept (Inside x done) v s runs measured flags conc flow out → SurveyFacts x t → runsAt measured (t .hour) ≡ runsAt (measuredMasks (x .days)) (t .hour)
-  measured-here x done t k f = runs-kept (length (x .days)) measured (measuredMasks (x .days)) (t .hour) (k .books .masks .measuredKept) (omega (arith, f .hour, f .all-days))
+  measured-here : (x : Line) (done : List Line) (t : Survey) → Kept (Inside x done) v s o d → SurveyFacts x t → runsAt (o .measured) (t .hour) ≡ runsAt (measuredMasks (x .days)) (t .hour)
+  measured-here x done t k f = runs-kept (length (x .days)) (o .measured) (measuredMasks (x .days)) (t .hour) (k .books .masks .measuredKept) (omega (arith, f .hour, f .all-days))
 
   no-plant : (x : Line) (done : List Line) → v ≡ viewOf (Inside x done) → v .plant .count ≡ 0 → x .plant ≡ []
   unfolding viewOf
   no-plant x done e z = empty-of (x .plant) (sym (survey-count (x .plant)) ∙ sym (ap (λ (w : View). w .plant .count) e) ∙ z)
 
-  pub took-enforcement : (stand : Stand) (r : Record) (t : Survey) (flags' conc' flow' : List ℕ) (u : Taken) → r ≡ OfEnforcement t → Ready stand at bytes r v s runs measured flags conc flow out
-      → EnforcementTaken v s t (runsAt measured (t .hour)) flags conc flow flags' conc' flow' u → Took stand at bytes r u runs measured flags' conc' flow' out
-  unfolding taken takenInside whole laterFault
-  took-enforcement (Between done) r t flags' conc' flow' u q k e =
-      absurd (between-out done v (k .kept .view) (enforcement-ok at v (runsOf (Between done)) t (rw q at (k .passed)) .1 .inside))
-  took-enforcement (Inside x done) r t flags' conc' flow' u q k e =
-      let ok = enforcement-ok at v (runsOf (Inside x done)) t (rw q at (k .passed)) in
-      let f = survey-facts x done t (k .kept .view) (ok .1) in
-      rw q (record {
-        faults = e .faults;
-        stays = λ _.
-            kept-enforcement x done v s t runs measured flags conc flow out (k .kept) (f .hour) (f .all-days) (f .room) (f .pair) flags' conc' flow' u (no-plant x done (k .kept .view) (ok .0))
-            (subst (λ (b : Bool). EnforcementTaken v s t b flags conc flow flags' conc' flow' u) (measured-here x done t (k .kept) f) e);
-      })
+  pub took-enforcement : (stand : Stand) (r : Record) (t : Survey) (flags' conc' flow' : List ℕ) (u : Taken) → r ≡ OfEnforcement t → Ready stand bytes r v s o d
+      → EnforcementTaken v s t (runsAt (o .measured) (t .hour)) (o .flags) (o .concentrations) (o .flows) flags' conc' flow' u → Took stand bytes r u (inOpen (o .runs) (o .measured) flags' conc' flow') d
+  unfolding taken takenInside judgeReadings
+  took-enforcement stand r t flags' conc' flow' u q k e =
+      let ok = enforcement-ok v (runsOf stand) t (judged stand r (OfEnforcement t) q k) in
+      took-other stand r (OfEnforcement t) u _ d q (e .faults) refl
+      (in-line stand v (k .kept .view) (ok .1 .inside) (λ a. Kept a v s o d → Kept (taken a bytes (OfEnforcement t)) (u .view) (u .sums) (inOpen (o .runs) (o .measured) flags' conc' flow') d)
+      (λ x done y.
+      let f = survey-facts x done t (y .view) (ok .1) in
+      kept-enforcement x done v s t o d y (f .hour) (f .all-days) (f .room) (f .pair) flags' conc' flow' u (no-plant x done (y .view) (ok .0))
+      (subst (λ (b : Bool). EnforcementTaken v s t b (o .flags) (o .concentrations) (o .flows) flags' conc' flow' u) (measured-here x done t y f) e)) (k .kept))
 
-  pub took-plant : (stand : Stand) (r : Record) (t : Survey) (conc' flow' : List ℕ) (u : Taken) → r ≡ OfPlant t → Ready stand at bytes r v s runs measured flags conc flow out
-      → PlantTaken v s t (runsAt measured (t .hour)) flags conc flow conc' flow' u → Took stand at bytes r u runs measured flags conc' flow' out
-  unfolding taken takenInside whole laterFault
-  took-plant (Between done) r t conc' flow' u q k e =
-      absurd (between-out done v (k .kept .view) (plant-ok at v (runsOf (Between done)) t (rw q at (k .passed)) .inside))
-  took-plant (Inside x done) r t conc' flow' u q k e =
-      let ok = plant-ok at v (runsOf (Inside x done)) t (rw q at (k .passed)) in
-      let f = survey-facts x done t (k .kept .view) ok in
-      rw q (record {
-        faults = e .faults;
-        stays = λ _.
-            kept-plant x done v s t runs measured flags conc flow out (k .kept) (f .hour) (f .all-days) (f .room) (f .pair) conc' flow' u
-            (subst (λ (b : Bool). PlantTaken v s t b flags conc flow conc' flow' u) (measured-here x done t (k .kept) f) e);
-      })
+  pub took-plant : (stand : Stand) (r : Record) (t : Survey) (conc' flow' : List ℕ) (u : Taken) → r ≡ OfPlant t → Ready stand bytes r v s o d
+      → PlantTaken v s t (runsAt (o .measured) (t .hour)) (o .flags) (o .concentrations) (o .flows) conc' flow' u → Took stand bytes r u (inOpen (o .runs) (o .measured) (o .flags) conc' flow') d
+  unfolding taken takenInside judgeReadings
+  took-plant stand r t conc' flow' u q k e =
+      let ok = plant-ok v (runsOf stand) t (judged stand r (OfPlant t) q k) in
+      took-other stand r (OfPlant t) u _ d q (e .faults) refl
+      (in-line stand v (k .kept .view) (ok .inside) (λ a. Kept a v s o d → Kept (taken a bytes (OfPlant t)) (u .view) (u .sums) (inOpen (o .runs) (o .measured) (o .flags) conc' flow') d)
+      (λ x done y.
+      let f = survey-facts x done t (y .view) ok in
+      kept-plant x done v s t o d y (f .hour) (f .all-days) (f .room) (f .pair) conc' flow' u
+      (subst (λ (b : Bool). PlantTaken v s t b (o .flags) (o .concentrations) (o .flows) conc' flow' u) (measured-here x done t y f) e)) (k .kept))
 
   -- ---- a batch
-  pub took-batch : (stand : Stand) (r : Record) (b : Batch) (u : Taken) → r ≡ OfBatch b → Ready stand at bytes r v s runs measured flags conc flow out → BatchTaken v s b u
-      → Took stand at bytes r u runs measured flags conc flow out
-  unfolding taken takenInside whole laterFault viewOf
-  took-batch (Between done) r b u q k e = absurd (between-out done v (k .kept .view) (batch-ok at v (runsOf (Between done)) b (rw q at (k .passed)) .inside))
-  took-batch (Inside x done) r b u q k e =
-      let ok = batch-ok at v (runsOf (Inside x done)) b (rw q at (k .passed)) in
-      rw q (record {
-        faults = e .faults;
-        stays = λ _.
-            kept-batch x done v s b runs measured flags conc flow out u (k .kept)
-            (omega (arith, ok .fuel-most, ap (λ (w : View). w .fuel) (k .kept .view))) (ok .sulphur-most) (ok .ash-most) e;
-      })
+  pub took-batch : (stand : Stand) (r : Record) (b : Batch) (u : Taken) → r ≡ OfBatch b → Ready stand bytes r v s o d → BatchTaken v s b u → Took stand bytes r u o d
+  unfolding taken takenInside judgeReadings viewOf
+  took-batch stand r b u q k e =
+      let ok = batch-ok v (runsOf stand) b (judged stand r (OfBatch b) q k) in
+      took-other stand r (OfBatch b) u o d q (e .faults) refl
+      (in-line stand v (k .kept .view) (ok .inside) (λ a. Kept a v s o d → Kept (taken a bytes (OfBatch b)) (u .view) (u .sums) o d)
+      (λ x done y. kept-batch x done v s b o d u y (omega (arith, ok .fuel-most, ap (λ (w : View). w .fuel) (y .view))) (ok .sulphur-most) (ok .ash-most) e) (k .kept))
 
   -- ---- an end
   no-entry : (x : Line) (done : List Line) → v ≡ viewOf (Inside x done) → EndOk v → (method x ≡ 1 → ⊥) → (method x ≡ 2 → ⊥) → coefficientsOf (x .head) ≡ NoEntry → ⊥
@@ -250,103 +224,103 @@ module _ (at : ℕ) (bytes : List ℕ) (v : View) (s : Sums) (runs measured flag
       ok .by-fuel (subst (λ (i : ℕ). 2 < i) (sym (ap lineMethod e ∙ method-is x done)) (above-two (method x) (method-least x) n m)) .1
       (ap (λ (w : View). coefficientsOf (w .head)) e ∙ q)
 
-  pub took-end : (stand : Stand) (r : Record) (conc' flow' out' : List ℕ) (u : Taken) → r ≡ OfEnd → Ready stand at bytes r v s runs measured flags conc flow out
-      → EndTaken v s (periodStates runs measured (v .head .days)) (firstMissing runs measured (v .head .days)) conc flow out conc' flow' out' u
-      → Took stand at bytes r u runs measured flags conc' flow' out'
-  unfolding taken takenInside whole laterFault viewOf
-  took-end (Between done) r conc' flow' out' u q k e = absurd (between-out done v (k .kept .view) (end-ok at v (runsOf (Between done)) (rw q at (k .passed)) .inside))
-  took-end (Inside x done) r conc' flow' out' u q k e =
-      let ok = end-ok at v (runsOf (Inside x done)) (rw q at (k .passed)) in
-      let a : length (x .days) ≡ x .head .days = days-all x done (k .kept .view) (ok .days-done) in
-      let n : length (x .days) ≡ v .head .days = a ∙ sym (ap (λ (w : View). w .head .days) (k .kept .view)) in
-      let kr : take (v .head .days) runs ≡ runMasks (x .days) = ap (λ (i : ℕ). take i runs) (sym n) ∙ k .kept .books .masks .runsKept in
-      let km : take (v .head .days) measured ≡ measuredMasks (x .days) = ap (λ (i : ℕ). take i measured) (sym n) ∙ k .kept .books .masks .measuredKept in
-      rw q (record {
-        faults = e .faults;
-        stays = λ _.
-            kept-end x done v s runs measured flags conc flow out (k .kept) a (no-entry x done (k .kept .view) ok) conc' flow' out' u
-            (subst₂ (λ (i : List ℕ) (j : ℕ). EndTaken v s i j conc flow out conc' flow' out' u) (states-kept (v .head .days) runs measured _ _ kr km) (first-kept (v .head .days) runs measured _ _ kr km) e);
-      })
+  pub took-end : (stand : Stand) (r : Record) (conc' flow' : List ℕ) (d' : Done) (u : Taken) → r ≡ OfEnd → Ready stand bytes r v s o d
+      → EndTaken v s (periodStates (o .runs) (o .measured) (v .head .days)) (firstMissing (o .runs) (o .measured) (v .head .days)) (o .concentrations) (o .flows) d conc' flow' d' u
+      → Took stand bytes r u (inOpen (o .runs) (o .measured) (o .flags) conc' flow') d'
+  unfolding taken takenInside judgeReadings viewOf
+  took-end stand r conc' flow' d' u q k e =
+      let ok = end-ok v (runsOf stand) (judged stand r OfEnd q k) in
+      took-other stand r OfEnd u _ d' q (e .faults) refl
+      (in-line stand v (k .kept .view) (ok .inside) (λ a. Kept a v s o d → Kept (taken a bytes OfEnd) (u .view) (u .sums) (inOpen (o .runs) (o .measured) (o .flags) conc' flow') d')
+      (λ x done y.
+      let a : length (x .days) ≡ x .head .days = days-all x done (y .view) (ok .days-done) in
+      let n : length (x .days) ≡ v .head .days = a ∙ sym (ap (λ (w : View). w .head .days) (y .view)) in
+      let kr : take (v .head .days) (o .runs) ≡ runMasks (x .days) = ap (λ (i : ℕ). take i (o .runs)) (sym n) ∙ y .books .masks .runsKept in
+      let km : take (v .head .days) (o .measured) ≡ measuredMasks (x .days) = ap (λ (i : ℕ). take i (o .measured)) (sym n) ∙ y .books .masks .measuredKept in
+      kept-end x done v s o d y a (no-entry x done (y .view) ok) conc' flow' d' u
+      (subst₂ (λ (i : List ℕ) (j : ℕ). EndTaken v s i j (o .concentrations) (o .flows) d conc' flow' d' u) (states-kept (v .head .days) (o .runs) (o .measured) _ _ kr km) (first-kept (v .head .days) (o .runs) (o .measured) _ _ kr km) e)) (k .kept))
 
   -- ---- what each asks before it is taken in
-  pub days-lent : (stand : Stand) → Kept stand v s runs measured flags conc flow out → v .days ≤ 92
+  pub days-lent : (stand : Stand) → Kept stand v s o d → v .days ≤ mostDays
   unfolding viewOf
   days-lent (Between done) k = omega (arith, ap (λ (w : View). w .days) (k .view))
   days-lent (Inside x done) k = omega (arith, ap (λ (w : View). w .days) (k .view), k .books .days, k .books .period)
 
-  pub ready-day : (stand : Stand) (r : Record) (m : DayMasks) → r ≡ OfDay m → Ready stand at bytes r v s runs measured flags conc flow out
-      → (m .number < 92) × (length conc ≡ 2_208) × (length flow ≡ 2_208) × (v .days < 92) × (v .running ≤ 2_208) × (v .missing ≤ 2_208)
+  pub ready-day : (stand : Stand) (r : Record) (m : Masks) → r ≡ OfDay m → Ready stand bytes r v s o d
+      → (m .day < mostDays) × (length (o .concentrations) ≡ mostHours) × (length (o .flows) ≡ mostHours) × (v .days < mostDays) × (v .running ≤ mostHours) × (v .missing ≤ mostHours)
   unfolding viewOf
-  ready-day (Between done) r m q k = absurd (between-out done v (k .kept .view) (day-ok at v (runsOf (Between done)) m (rw q at (k .passed)) .inside))
-  ready-day (Inside x done) r m q k =
-      let ok = day-ok at v (runsOf (Inside x done)) m (rw q at (k .passed)) in
-      let e = k .kept .view in
-      let b = k .kept .books in
-      let n : v .days < 92 = omega (arith, ok .room, ap (λ (w : View). w .head .days) e, b .period) in (
+  ready-day stand r m q k =
+      let ok = day-ok v (runsOf stand) m (judged stand r (OfDay m) q k) in
+      in-line stand v (k .kept .view) (ok .inside)
+      (λ a. Kept a v s o d → (m .day < mostDays) × (length (o .concentrations) ≡ mostHours) × (length (o .flows) ≡ mostHours) × (v .days < mostDays) × (v .running ≤ mostHours) × (v .missing ≤ mostHours))
+      (λ x done y.
+      let e = y .view in
+      let b = y .books in
+      let n : v .days < mostDays = omega (arith, ok .room, ap (λ (w : View). w .head .days) e, b .period) in (
         omega (arith, ok .turn),
-        k .kept .concLong,
-        k .kept .flowLong,
+        y .long .concentrations,
+        y .long .flows,
         n,
         omega (arith, ap (λ (w : View). w .running) e, running-period (x .days), b .days, b .period),
         omega (arith, ap (λ (w : View). w .missing) e, missing-period (x .days), running-period (x .days), b .days, b .period),
-      )
+      )) (k .kept)
 
-  weights-most : (x : Line) (done : List Line) → Kept (Inside x done) v s runs measured flags conc flow out → (s .surveyed ≤ 120) × (s .weight ≤ 600_000_000_000_000)
+  weights-most : (x : Line) (done : List Line) → Kept (Inside x done) v s o d → (s .surveyed ≤ mostSurveys) × (s .weight ≤ mostSurveys * mostAmount)
   weights-most x done k =
       let y = k .books .surveys in
       (omega (arith, y .counted, surveyed-most x, k .books .few), omega (arith, y .weighed, y .most, surveyed-most x, k .books .few))
 
-  pub ready-enforcement : (stand : Stand) (r : Record) (t : Survey) → r ≡ OfEnforcement t → Ready stand at bytes r v s runs measured flags conc flow out
-      → (t .hour < 2_208) × (length conc ≡ 2_208) × (length flow ≡ 2_208) × (v .enforcement .count < 120) × (s .surveyed < 120) × (s .weight ≤ 600_000_000_000_000)
-  ready-enforcement (Between done) r t q k = absurd (between-out done v (k .kept .view) (enforcement-ok at v (runsOf (Between done)) t (rw q at (k .passed)) .1 .inside))
-  ready-enforcement (Inside x done) r t q k =
-      let ok = enforcement-ok at v (runsOf (Inside x done)) t (rw q at (k .passed)) .1 in
-      let f = survey-facts x done t (k .kept .view) ok in
-      let b = k .kept .books in
-      (omega (arith, f .hour, b .period), k .kept .concLong, k .kept .flowLong, omega (arith, ok .room), omega (arith, b .surveys .counted, surveyed-most x, f .room), weights-most x done (k .kept) .1)
+  -- what a survey of either kind asks
+  abbrev SurveyReady : Survey → ℕ → Type 0
+  SurveyReady t count = (t .hour < mostHours) × (length (o .concentrations) ≡ mostHours) × (length (o .flows) ≡ mostHours) × (count < mostSurveys) × (s .surveyed < mostSurveys) × (s .weight ≤ mostSurveys * mostAmount)
 
-  pub ready-plant : (stand : Stand) (r : Record) (t : Survey) → r ≡ OfPlant t → Ready stand at bytes r v s runs measured flags conc flow out
-      → (t .hour < 2_208) × (length conc ≡ 2_208) × (length flow ≡ 2_208) × (v .plant .count < 120) × (s .surveyed < 120) × (s .weight ≤ 600_000_000_000_000)
-  ready-plant (Between done) r t q k = absurd (between-out done v (k .kept .view) (plant-ok at v (runsOf (Between done)) t (rw q at (k .passed)) .inside))
-  ready-plant (Inside x done) r t q k =
-      let ok = plant-ok at v (runsOf (Inside x done)) t (rw q at (k .passed)) in
-      let f = survey-facts x done t (k .kept .view) ok in
-      let b = k .kept .books in
-      (omega (arith, f .hour, b .period), k .kept .concLong, k .kept .flowLong, omega (arith, ok .room), omega (arith, b .surveys .counted, surveyed-most x, f .room), weights-most x done (k .kept) .1)
+  ready-survey : (stand : Stand) (t : Survey) (count : ℕ) → count ≤ v .enforcement .count + v .plant .count → SurveyOk v t → Kept stand v s o d → SurveyReady t count
+  ready-survey stand t count l ok k =
+      in-line stand v (k .view) (ok .inside) (λ a. Kept a v s o d → SurveyReady t count)
+      (λ x done y.
+      let f = survey-facts x done t (y .view) ok in
+      let b = y .books in
+      (omega (arith, f .hour, b .period), y .long .concentrations, y .long .flows, omega (arith, ok .room, l), omega (arith, b .surveys .counted, surveyed-most x, f .room), weights-most x done y .1)) k
 
-  pub ready-batch : (stand : Stand) (r : Record) (b : Batch) → r ≡ OfBatch b → Ready stand at bytes r v s runs measured flags conc flow out
-      → (v .batches < 92) × (b .kg + v .fuel ≤ 10_000_000_000) × (b .ash ≤ 10_000) × (s .ash ≤ 100_000_000_000_000)
-  ready-batch (Between done) r b q k = absurd (between-out done v (k .kept .view) (batch-ok at v (runsOf (Between done)) b (rw q at (k .passed)) .inside))
-  ready-batch (Inside x done) r b q k =
-      let ok = batch-ok at v (runsOf (Inside x done)) b (rw q at (k .passed)) in
-      let m = k .kept .books .fuel in
-      (ok .room, omega (arith, ok .fuel-most), ok .ash-most, omega (arith, m .summed, m .range .ash, m .range .kg))
+  pub ready-enforcement : (stand : Stand) (r : Record) (t : Survey) → r ≡ OfEnforcement t → Ready stand bytes r v s o d → SurveyReady t (v .enforcement .count)
+  ready-enforcement stand r t q k = ready-survey stand t (v .enforcement .count) (omega arith) (enforcement-ok v (runsOf stand) t (judged stand r (OfEnforcement t) q k) .1) (k .kept)
 
-  pub ready-end : (stand : Stand) (r : Record) → r ≡ OfEnd → Ready stand at bytes r v s runs measured flags conc flow out → EndReady v s conc flow
+  pub ready-plant : (stand : Stand) (r : Record) (t : Survey) → r ≡ OfPlant t → Ready stand bytes r v s o d → SurveyReady t (v .plant .count)
+  ready-plant stand r t q k = ready-survey stand t (v .plant .count) (omega arith) (plant-ok v (runsOf stand) t (judged stand r (OfPlant t) q k)) (k .kept)
+
+  pub ready-batch : (stand : Stand) (r : Record) (b : Batch) → r ≡ OfBatch b → Ready stand bytes r v s o d
+      → (v .batches < mostBatches) × (b .kg + v .fuel ≤ mostFuel) × (b .ash ≤ mostAsh) × (s .ash ≤ mostFuel * mostAsh)
+  ready-batch stand r b q k =
+      let ok = batch-ok v (runsOf stand) b (judged stand r (OfBatch b) q k) in
+      in-line stand v (k .kept .view) (ok .inside) (λ a. Kept a v s o d → (v .batches < mostBatches) × (b .kg + v .fuel ≤ mostFuel) × (b .ash ≤ mostAsh) × (s .ash ≤ mostFuel * mostAsh))
+      (λ x done y. let m = y .books .fuel in (ok .room, omega (arith, ok .fuel-most), ok .ash-most, omega (arith, m .summed, m .range .ash, m .range .kg))) (k .kept)
+
+  pub ready-end : (stand : Stand) (r : Record) → r ≡ OfEnd → Ready stand bytes r v s o d → EndReady v s (o .concentrations) (o .flows) (d .totals)
   unfolding viewOf
-  ready-end (Between done) r q k = absurd (between-out done v (k .kept .view) (end-ok at v (runsOf (Between done)) (rw q at (k .passed)) .inside))
-  ready-end (Inside x done) r q k =
-      let e = k .kept .view in
-      let y = k .kept .books in
-      let w = weights-most x done (k .kept) in
-      let z : fuelFigure (v .head) (v .fuel) (s .sulphur) (s .ash) ≡ fuelFigure (x .head) (fuel (x .batches)) (sulphurOf (x .batches)) (ashOf (x .batches)) =
-      rw (ap (λ (w : View). w .head) e, ap (λ (w : View). w .fuel) e, y .fuel .largest, y .fuel .summed) refl in
+  ready-end stand r q k =
+      in-line stand v (k .kept .view) (end-ok v (runsOf stand) (judged stand r OfEnd q k) .inside) (λ a. Kept a v s o d → EndReady v s (o .concentrations) (o .flows) (d .totals))
+      (λ x done z.
+      let e = z .view in
+      let y = z .books in
+      let w = weights-most x done z in
+      let f : fuelFigure (v .head) (v .fuel) (s .sulphur) (s .ash) ≡ fuelFigure (x .head) (fuel (x .batches)) (sulphurOf (x .batches)) (ashOf (x .batches)) =
+      rw (ap (λ (u : View). u .head) e, ap (λ (u : View). u .fuel) e, y .fuel .largest, y .fuel .summed) refl in
+      let p : v .head .pollutant ≡ x .head .pollutant = ap (λ (u : View). u .head .pollutant) e in
       record {
-        days = omega (arith, ap (λ (w : View). w .head .days) e, y .period);
-        concLong = k .kept .concLong;
-        flowLong = k .kept .flowLong;
+        days = omega (arith, ap (λ (u : View). u .head .days) e, y .period);
+        concLong = z .long .concentrations;
+        flowLong = z .long .flows;
         limits = record { concentrations = cells-most (y .concentrations); flows = cells-most (y .flows) };
-        counts = omega (arith, ap (λ (w : View). w .enforcement .count) e, ap (λ (w : View). w .plant .count) e, survey-count (x .enforcement), survey-count (x .plant), surveys-are x, y .few);
+        counts = omega (arith, ap (λ (u : View). u .enforcement .count) e, ap (λ (u : View). u .plant .count) e, survey-count (x .enforcement), survey-count (x .plant), surveys-are x, y .few);
         some = λ m. subst (λ (i : ℕ). 0 < i) (sym (y .surveys .counted)) (manual-surveyed x (sym (ap lineMethod e ∙ method-is x done) ∙ m));
         surveyed = w .0;
         weight = w .1;
-        running = omega (arith, ap (λ (w : View). w .running) e, running-period (x .days), y .days, y .period);
-        lines = omega (arith, ap (λ (w : View). w .lines) e, k .kept .lines);
-        fuel = subst (λ (f : FuelFigure). gramsIn f ≤ 20_000_000_000_000) (sym z) (fuel-most (x .head) (x .batches) (y .fuel .range));
-        total1 = omega (arith, k .kept .most1, k .kept .lines);
-        total2 = omega (arith, k .kept .most2, k .kept .lines);
-        total3 = omega (arith, k .kept .most3, k .kept .lines);
-      }
+        running = omega (arith, ap (λ (u : View). u .running) e, running-period (x .days), y .days, y .period);
+        lines = omega (arith, ap (λ (u : View). u .lines) e, z .lines);
+        fuel = subst (λ (g : FuelFigure). gramsIn g ≤ mostGrams) (sym f) (fuel-most (x .head) (x .batches) (y .fuel .range));
+        pollutant = (omega (arith, p, y .pollutant .0), omega (arith, p, y .pollutant .1));
+        totals = λ i. omega (arith, z .done .most i, z .lines);
+      }) (k .kept)
 
-  pub took-none : (stand : Stand) (r : Record) → r ≡ Bad → Ready stand at bytes r v s runs measured flags conc flow out → ⊥
-  took-none stand r q k = bad-refused at v (runsOf stand) (rw q at (k .passed))
+  pub took-none : (stand : Stand) (r : Record) → r ≡ Bad → Ready stand bytes r v s o d → ⊥
+  took-none stand r q k = bad-refused v (runsOf stand) (judged stand r Bad q k)

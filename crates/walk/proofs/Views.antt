@@ -13,7 +13,6 @@ use Rattle.rules.specs.Records.{Day}
 use Rattle.rules.specs.Hours.{running, lacking}
 use Rattle.rules.specs.Lines.{Line, fuel}
 use Rattle.rules.specs.Walk.{Between, Inside, noHead, viewOf, floorOf, surveysOf, begun, withDay, withEnforcement, withPlant, withBatch}
-use Rattle.record.specs.Flat.{masksOf}
 use Rattle.walk.specs.Views.{oneMore, openedView, afterHead, afterDay, afterEnforcement, afterPlant, afterBatch, afterEnd}
 
 pub survey-count : (ss : List Survey) → surveysOf ss .count ≡ length ss
@@ -34,8 +33,8 @@ pub view-head : (done : List Line) (h : Head) → afterHead (viewOf (Between don
 unfolding viewOf begun floorOf surveysOf running lacking fuel sumOf
 view-head done h = refl
 
-pub view-day : (x : Line) (done : List Line) (d : Day) → afterDay (viewOf (Inside x done)) (masksOf d) ≡ viewOf (Inside (withDay x d) done)
-unfolding viewOf withDay masksOf floorOf running lacking sumOf
+pub view-day : (x : Line) (done : List Line) (d : Day) → afterDay (viewOf (Inside x done)) (d .masks) ≡ viewOf (Inside (withDay x d) done)
+unfolding viewOf withDay floorOf running lacking sumOf
 view-day x done d = rw (add-one (length (x .days)))
 
 pub view-enforcement : (x : Line) (done : List Line) (s : Survey) → afterEnforcement (viewOf (Inside x done)) (s .hour) ≡ viewOf (Inside (withEnforcement x s) done)

@@ -3,6 +3,7 @@ use Prim.Native.Nat.{ℕ, _+_, _*_, _≤_, _<_}
 use mathlib.Core.List.{List, [], _++_}
 use mathlib.Core.Path.{_≡_}
 use lib.ListN.{length, take, drop, getD, replicate}
+use Rattle.law.specs.Numbers.{hoursOfDay, mostDays, mostHours, mostLines, rowCells, mostCells, totalCells, mostSurveys, mostConcentration, mostFlow, mostAmount, mostGrams}
 use Rattle.law.specs.Words.{pick, sumOf, table, over}
 use Rattle.rules.specs.declared.Pair.{Pair}
 use Rattle.rules.specs.declared.Survey.{Survey}
@@ -14,28 +15,48 @@ use Rattle.rules.specs.Hours.{slotsOf, runMasks, measuredMasks}
 use Rattle.rules.specs.Lines.{Line, replaced, hasSurvey, surveyed, surveys as surveysIn}
 use Rattle.rules.specs.Fill.{Values, zeroes}
 use Rattle.rules.specs.Grams.{valuesOf, amount, surveyValues, sulphurOf}
-use Rattle.rules.specs.Row.{rowsOf, totalOf, concentrationCells, flowCells}
+use Rattle.rules.specs.Row.{rowsOf, totalsOf, concentrationCells, flowCells}
 use Rattle.rules.specs.Walk.{Stand, Between, Inside, viewOf}
 use Rattle.fuel.specs.Fuel.{ashOf, InRange}
 use Rattle.walk.specs.declared.books.Sums.{Sums}
 
 -- the rows of no line, in cells for 48
 unfoldable pub noRows : List ℕ
-noRows = replicate 336 0
+noRows = replicate mostCells 0
 
 -- f written over n cells from a place on
-abbrev pub patched : (ℕ → ℕ) → ℕ → ℕ → List ℕ → List ℕ
-patched f n from cells = take from cells ++ over f n (drop from cells)
+abbrev pub putFrom : (ℕ → ℕ) → ℕ → ℕ → List ℕ → List ℕ
+putFrom f n from cells = take from cells ++ over f n (drop from cells)
+
+-- the lists that the code keeps of the open line: the masks of its days, a flag for each hour with an enforcement survey, and both work tables
+pub record Open : Type 0 where
+  pub runs : List ℕ
+  pub measured : List ℕ
+  pub flags : List ℕ
+  pub concentrations : List ℕ
+  pub flows : List ℕ
+
+abbrev pub inOpen : List ℕ → List ℕ → List ℕ → List ℕ → List ℕ → Open
+inOpen runs measured flags concentrations flows =
+    record { runs = runs; measured = measured; flags = flags; concentrations = concentrations; flows = flows }
+
+-- and of the lines that are done: their rows, and the totals
+pub record Done : Type 0 where
+  pub rows : List ℕ
+  pub totals : List ℕ
+
+abbrev pub inDone : List ℕ → List ℕ → Done
+inDone rows totals = record { rows = rows; totals = totals }
 
 -- what a cell holds of an hour that is not filled
-unfoldable pub plain : Slot Pair → Values
-plain (valid p) = valuesOf p
-plain missing = zeroes
-plain stopped = zeroes
+unfoldable pub inCell : Slot Pair → Values
+inCell (valid p) = valuesOf p
+inCell missing = zeroes
+inCell stopped = zeroes
 
 -- the values of hour h of a line so far; past its days 0
 unfoldable pub valuesAt : Line → ℕ → Values
-valuesAt x h = plain (replaced (x .enforcement) (x .plant) h (getD (slotsOf (x .days)) h stopped))
+valuesAt x h = inCell (replaced (x .enforcement) (x .plant) h (getD (slotsOf (x .days)) h stopped))
 
 -- 1 where an hour has an enforcement survey
 unfoldable pub flagAt : List Survey → ℕ → ℕ
@@ -48,16 +69,16 @@ pub record MasksKept (days : List Day) (runs measured : List ℕ) : Type 0 where
 
 -- one quantity of every hour, within its limit
 pub record CellsKept (value : ℕ → ℕ) (most : ℕ) (cells : List ℕ) : Type 0 where
-  pub hold : cells ≡ table value 2_208
+  pub hold : cells ≡ table value mostHours
   pub within : (h : ℕ) → value h ≤ most
 
 -- the surveys so far: a flag for each of the enforcement, and n and the sum of c x l of the distinct ones
 pub record SurveysKept (days : ℕ) (enforcement distinct : List Survey) (count weight : ℕ) (flags : List ℕ) : Type 0 where
-  pub flagged : flags ≡ table (flagAt enforcement) 2_208
-  pub past : (h : ℕ) → 24 * days ≤ h → getD flags h 0 ≡ 0
+  pub flagged : flags ≡ table (flagAt enforcement) mostHours
+  pub past : (h : ℕ) → hoursOfDay * days ≤ h → getD flags h 0 ≡ 0
   pub counted : count ≡ length distinct
   pub weighed : weight ≡ sumOf (λ s. amount (surveyValues s)) distinct
-  pub most : sumOf (λ s. amount (surveyValues s)) distinct ≤ length distinct * 5_000_000_000_000
+  pub most : sumOf (λ s. amount (surveyValues s)) distinct ≤ length distinct * mostAmount
 
 -- the batches so far
 pub record FuelKept (batches : List Batch) (sulphur ash : ℕ) : Type 0 where
@@ -66,57 +87,62 @@ pub record FuelKept (batches : List Batch) (sulphur ash : ℕ) : Type 0 where
   pub range : InRange batches
 
 -- what the code holds of an open line. No survey comes before the last day
-pub record LineBooks (x : Line) (s : Sums) (runs measured flags conc flow : List ℕ) : Type 0 where
-  pub masks : MasksKept (x .days) runs measured
-  pub concentrations : CellsKept (λ h. valuesAt x h .c) 1_000_000 conc
-  pub flows : CellsKept (λ h. valuesAt x h .l) 5_000_000 flow
-  pub surveys : SurveysKept (x .head .days) (x .enforcement) (surveyed x) (s .surveyed) (s .weight) flags
+pub record LineBooks (x : Line) (s : Sums) (o : Open) : Type 0 where
+  pub masks : MasksKept (x .days) (o .runs) (o .measured)
+  pub concentrations : CellsKept (λ h. valuesAt x h .c) mostConcentration (o .concentrations)
+  pub flows : CellsKept (λ h. valuesAt x h .l) mostFlow (o .flows)
+  pub surveys : SurveysKept (x .head .days) (x .enforcement) (surveyed x) (s .surveyed) (s .weight) (o .flags)
   pub fuel : FuelKept (x .batches) (s .sulphur) (s .ash)
-  pub used : s .used ≡ 24 * x .head .days
-  pub period : x .head .days ≤ 92
+  pub used : s .used ≡ hoursOfDay * x .head .days
+  pub pollutant : (1 ≤ x .head .pollutant) × (x .head .pollutant ≤ totalCells)
+  pub period : x .head .days ≤ mostDays
   pub days : length (x .days) ≤ x .head .days
   pub early : length (x .days) < x .head .days → (x .enforcement ≡ []) × (x .plant ≡ [])
-  pub few : surveysIn x ≤ 120
+  pub few : surveysIn x ≤ mostSurveys
 
 -- what the cells hold between two lines: past those that the newest line used they are 0
-pub record DoneCells (done : List Line) (used : ℕ) (flags conc flow : List ℕ) : Type 0 where
-  pub concHeld : conc ≡ concentrationCells done
-  pub flowHeld : flow ≡ flowCells done
-  pub usedMost : used ≤ 2_208
-  pub flagsPast : (h : ℕ) → used ≤ h → getD flags h 0 ≡ 0
-  pub concPast : (h : ℕ) → used ≤ h → getD conc h 0 ≡ 0
-  pub flowPast : (h : ℕ) → used ≤ h → getD flow h 0 ≡ 0
+pub record CellsBetween (lines : List Line) (used : ℕ) (o : Open) : Type 0 where
+  pub concHeld : o .concentrations ≡ concentrationCells lines
+  pub flowHeld : o .flows ≡ flowCells lines
+  pub usedMost : used ≤ mostHours
+  pub flagsPast : (h : ℕ) → used ≤ h → getD (o .flags) h 0 ≡ 0
+  pub concPast : (h : ℕ) → used ≤ h → getD (o .concentrations) h 0 ≡ 0
+  pub flowPast : (h : ℕ) → used ≤ h → getD (o .flows) h 0 ≡ 0
 
 -- the one or the other
-abbrev pub OpenBooks : Stand → Sums → List ℕ → List ℕ → List ℕ → List ℕ → List ℕ → Type 0
-OpenBooks (Between done) s runs measured flags conc flow = DoneCells done (s .used) flags conc flow
-OpenBooks (Inside x done) s runs measured flags conc flow = LineBooks x s runs measured flags conc flow
+abbrev pub OpenBooks : Stand → Sums → Open → Type 0
+OpenBooks (Between done) s o = CellsBetween done (s .used) o
+OpenBooks (Inside x done) s o = LineBooks x s o
 
 -- the lines that are done
-abbrev pub doneOf : Stand → List Line
-doneOf (Between done) = done
-doneOf (Inside x done) = done
+abbrev pub linesDone : Stand → List Line
+linesDone (Between done) = done
+linesDone (Inside x done) = done
 
 -- the lines that are begun
 abbrev pub begunOf : Stand → ℕ
 begunOf (Between done) = length done
 begunOf (Inside x done) = length done + 1
 
+-- the rows and the totals of the lines that are done, which no record of an open line moves
+pub record DoneKept (lines : List Line) (d : Done) : Type 0 where
+  pub rows : d .rows ≡ rowsOf lines ++ drop (rowCells * length lines) noRows
+  pub totals : d .totals ≡ totalsOf lines
+  pub most : (i : ℕ) → getD (d .totals) i 0 ≤ length lines * mostGrams
+  pub long : length (d .rows) ≡ mostCells
+
+-- how long the open line's lists are
+pub record Long (o : Open) : Type 0 where
+  pub runs : length (o .runs) ≡ mostDays
+  pub measured : length (o .measured) ≡ mostDays
+  pub flags : length (o .flags) ≡ mostHours
+  pub concentrations : length (o .concentrations) ≡ mostHours
+  pub flows : length (o .flows) ≡ mostHours
+
 -- the code's state stands for these lines
-pub record Kept (stand : Stand) (v : View) (s : Sums) (runs measured flags conc flow out : List ℕ) : Type 0 where
+pub record Kept (stand : Stand) (v : View) (s : Sums) (o : Open) (d : Done) : Type 0 where
   pub view : v ≡ viewOf stand
-  pub lines : begunOf stand ≤ 48
-  pub rows : out ≡ rowsOf (doneOf stand) ++ drop (7 * length (doneOf stand)) noRows
-  pub total1 : s .total1 ≡ totalOf 1 (doneOf stand)
-  pub total2 : s .total2 ≡ totalOf 2 (doneOf stand)
-  pub total3 : s .total3 ≡ totalOf 3 (doneOf stand)
-  pub most1 : s .total1 ≤ length (doneOf stand) * 20_000_000_000_000
-  pub most2 : s .total2 ≤ length (doneOf stand) * 20_000_000_000_000
-  pub most3 : s .total3 ≤ length (doneOf stand) * 20_000_000_000_000
-  pub runsLong : length runs ≡ 92
-  pub measuredLong : length measured ≡ 92
-  pub flagsLong : length flags ≡ 2_208
-  pub concLong : length conc ≡ 2_208
-  pub flowLong : length flow ≡ 2_208
-  pub outLong : length out ≡ 336
-  pub books : OpenBooks stand s runs measured flags conc flow
+  pub lines : begunOf stand ≤ mostLines
+  pub done : DoneKept (linesDone stand) d
+  pub long : Long o
+  pub books : OpenBooks stand s o

@@ -1,10 +1,11 @@
 -- What the functions that close a line promise each other.
-use Prim.Native.Nat.{ℕ, _+_, _*_, _≤_}
+use Prim.Native.Nat.{ℕ, _+_, _-_, _*_, _≤_}
 use mathlib.Core.List.{List}
 use mathlib.Core.Path.{_≡_}
-use lib.ListN.{take, getD}
+use lib.ListN.{take, getD, set}
 use lib.Dec.{eqb}
-use Rattle.law.specs.Words.{need, pick, halvesUp}
+use Rattle.law.specs.Numbers.{hoursOfDay, mostConcentration, mostFlow, perGram}
+use Rattle.law.specs.Words.{pick, halvesUp}
 use Rattle.line.specs.Line.{gramsOf}
 use Rattle.fills.specs.Gaps.{filledCells}
 use Rattle.fills.specs.Weights.{products}
@@ -22,18 +23,18 @@ gramsIn OutOfRange = 0
 
 -- the weight of the period's cells
 abbrev pub periodWeight : ℕ → List ℕ → List ℕ → ℕ
-periodWeight days conc flow = products (take (24 * days) conc) (take (24 * days) flow)
+periodWeight days conc flow = products (take (hoursOfDay * days) conc) (take (hoursOfDay * days) flow)
 
 -- both quantities filled, and the grams of the filled period
 pub record FilledLine (states : List ℕ) (days : ℕ) (conc flow conc' flow' : List ℕ) (r : ℕ) : Type 0 where
   pub concentrations : conc' ≡ filledCells states conc
   pub flows : flow' ≡ filledCells states flow
-  pub grams : r ≡ halvesUp (periodWeight days conc' flow') 100_000
+  pub grams : r ≡ halvesUp (periodWeight days conc' flow') perGram
 
 -- every cell is within the limit of its quantity
 pub record Limits (conc flow : List ℕ) : Type 0 where
-  pub concentrations : (h : ℕ) → getD conc h 0 ≤ 1_000_000
-  pub flows : (h : ℕ) → getD flow h 0 ≤ 5_000_000
+  pub concentrations : (h : ℕ) → getD conc h 0 ≤ mostConcentration
+  pub flows : (h : ℕ) → getD flow h 0 ≤ mostFlow
 
 -- the grams of a line by its method and its cells, which are filled under method 1
 abbrev pub lineGrams : ℕ → View → Sums → List ℕ → List ℕ → ℕ
@@ -44,10 +45,9 @@ lineGrams method v s conc flow =
 -- the same as what the lines above ask, beside the cells before and after
 pub record LineGrams (method : ℕ) (v : View) (s : Sums) (states conc flow conc' flow' : List ℕ) (r : ℕ) : Type 0 where
   pub automatic : method ≡ 1 → FilledLine states (v .head .days) conc flow conc' flow' r
-  pub manual : method ≡ 2 → (conc' ≡ conc) × (flow' ≡ flow) × (r ≡ halvesUp (s .weight * v .running) (s .surveyed * 100_000))
+  pub manual : method ≡ 2 → (conc' ≡ conc) × (flow' ≡ flow) × (r ≡ halvesUp (s .weight * v .running) (s .surveyed * perGram))
   pub fuel : (method ≡ 1 → ⊥) → (method ≡ 2 → ⊥) → (conc' ≡ conc) × (flow' ≡ flow) × (r ≡ gramsIn (fuelFigure (v .head) (v .fuel) (s .sulphur) (s .ash)))
 
--- the totals with a line's grams more
-abbrev pub withGrams : Sums → ℕ → ℕ → Sums
-withGrams s pollutant grams =
-    record { surveyed = s .surveyed; weight = s .weight; sulphur = s .sulphur; ash = s .ash; used = s .used; total1 = need 0 (eqb pollutant 1) grams + s .total1; total2 = need 0 (eqb pollutant 2) grams + s .total2; total3 = need 0 (eqb pollutant 3) grams + s .total3 }
+-- the totals with a line's grams more, in the cell of its pollutant
+abbrev pub withGrams : List ℕ → ℕ → ℕ → List ℕ
+withGrams totals pollutant grams = set totals (pollutant - 1) (grams + getD totals (pollutant - 1) 0)

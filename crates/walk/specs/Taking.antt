@@ -4,44 +4,44 @@ use mathlib.Core.Bool.{Bool}
 use mathlib.Core.List.{List}
 use mathlib.Core.Path.{_≡_}
 use lib.ListN.{length, getD, set}
+use Rattle.law.specs.Numbers.{hoursOfDay, mostDays, mostHours, mostLines, rowCells, totalCells, mostSurveys, mostAmount, mostGrams}
 use Rattle.law.specs.Words.{table, over}
 use Rattle.rules.specs.declared.Head.{Head}
+use Rattle.rules.specs.declared.Masks.{Masks}
 use Rattle.rules.specs.declared.Survey.{Survey}
 use Rattle.rules.specs.declared.Batch.{Batch}
 use Rattle.rules.specs.declared.View.{View}
 use Rattle.rules.specs.Records.{dayOf}
-use Rattle.method.specs.Open.{lineMethod}
 use Rattle.surveyed.specs.declared.Weighed.{Weighed}
 use Rattle.surveyed.specs.Put.{beats, SurveyPut, PlantPut}
 use Rattle.line.specs.Line.{rowIn}
-use Rattle.rules.specs.Judge.{fine, judgeHours}
-use Rattle.record.specs.declared.DayMasks.{DayMasks}
+use Rattle.rules.specs.Judge.{fine, judgeHours, lineMethod}
 use Rattle.day.specs.Day.{concentrationAt, flowAt}
 use Rattle.walk.specs.declared.books.Sums.{Sums}
 use Rattle.walk.specs.declared.take.Taken.{Taken}
 use Rattle.walk.specs.Views.{afterHead, afterDay, afterEnforcement, afterPlant, afterBatch, afterEnd, openedSums, withSurvey, withFuel}
 use Rattle.walk.specs.Closing.{gramsIn, Limits, LineGrams, withGrams}
 use Rattle.fuel.specs.Fuel.{fuelFigure}
-use Rattle.walk.specs.Books.{patched}
+use Rattle.walk.specs.Books.{putFrom, Done}
 
 -- a head: cells and flags are 0
 pub record HeadTaken (v : View) (s : Sums) (h : Head) (flags conc flow flags' conc' flow' : List ℕ) (r : Taken) : Type 0 where
   pub faults : r .fault ≡ fine
   pub view : r .view ≡ afterHead v h
-  pub sums : r .sums ≡ openedSums s h
+  pub sums : r .sums ≡ openedSums h
   pub flagsNow : flags' ≡ over (λ k. 0) (s .used) flags
   pub concNow : conc' ≡ over (λ k. 0) (s .used) conc
   pub flowNow : flow' ≡ over (λ k. 0) (s .used) flow
 
 -- a day: its masks and its 24 values, unless a reading is refused
-pub record DayTaken (at : ℕ) (bytes : List ℕ) (v : View) (s : Sums) (d : DayMasks) (runs measured conc flow runs' measured' conc' flow' : List ℕ) (r : Taken) : Type 0 where
-  pub faults : r .fault ≡ judgeHours at (dayOf bytes)
-  pub view : r .fault .number ≡ 0 → r .view ≡ afterDay v d
+pub record DayTaken (bytes : List ℕ) (v : View) (s : Sums) (m : Masks) (runs measured conc flow runs' measured' conc' flow' : List ℕ) (r : Taken) : Type 0 where
+  pub faults : r .fault ≡ judgeHours (dayOf bytes)
+  pub view : r .fault .number ≡ 0 → r .view ≡ afterDay v m
   pub sums : r .sums ≡ s
-  pub runsNow : r .fault .number ≡ 0 → runs' ≡ set runs (d .number) (d .run)
-  pub measuredNow : r .fault .number ≡ 0 → measured' ≡ set measured (d .number) (d .measured)
-  pub concNow : r .fault .number ≡ 0 → conc' ≡ patched (λ k. getD (table (concentrationAt (dayOf bytes)) 24) k 0) 24 (24 * d .number) conc
-  pub flowNow : r .fault .number ≡ 0 → flow' ≡ patched (λ k. getD (table (flowAt (dayOf bytes)) 24) k 0) 24 (24 * d .number) flow
+  pub runsNow : r .fault .number ≡ 0 → runs' ≡ set runs (m .day) (m .run)
+  pub measuredNow : r .fault .number ≡ 0 → measured' ≡ set measured (m .day) (m .measured)
+  pub concNow : r .fault .number ≡ 0 → conc' ≡ putFrom (λ k. getD (table (concentrationAt (dayOf bytes)) hoursOfDay) k 0) hoursOfDay (hoursOfDay * m .day) conc
+  pub flowNow : r .fault .number ≡ 0 → flow' ≡ putFrom (λ k. getD (table (flowAt (dayOf bytes)) hoursOfDay) k 0) hoursOfDay (hoursOfDay * m .day) flow
 
 -- an enforcement survey, in a measured hour or another
 pub record EnforcementTaken (v : View) (s : Sums) (t : Survey) (measured : Bool) (flags conc flow flags' conc' flow' : List ℕ) (r : Taken) : Type 0 where
@@ -67,28 +67,28 @@ pub record BatchTaken (v : View) (s : Sums) (b : Batch) (r : Taken) : Type 0 whe
   pub sums : r .sums ≡ withFuel s b
 
 -- what closing a line asks
-pub record EndReady (v : View) (s : Sums) (conc flow : List ℕ) : Type 0 where
-  pub days : v .head .days ≤ 92
-  pub concLong : length conc ≡ 2_208
-  pub flowLong : length flow ≡ 2_208
+pub record EndReady (v : View) (s : Sums) (conc flow soFar : List ℕ) : Type 0 where
+  pub days : v .head .days ≤ mostDays
+  pub concLong : length conc ≡ mostHours
+  pub flowLong : length flow ≡ mostHours
   pub limits : Limits conc flow
-  pub counts : v .enforcement .count + v .plant .count ≤ 120
+  pub counts : v .enforcement .count + v .plant .count ≤ mostSurveys
   pub some : lineMethod v ≡ 2 → 0 < s .surveyed
-  pub surveyed : s .surveyed ≤ 120
-  pub weight : s .weight ≤ 600_000_000_000_000
-  pub running : v .running ≤ 2_208
-  pub lines : v .lines < 48
-  pub fuel : gramsIn (fuelFigure (v .head) (v .fuel) (s .sulphur) (s .ash)) ≤ 20_000_000_000_000
-  pub total1 : s .total1 ≤ 960_000_000_000_000
-  pub total2 : s .total2 ≤ 960_000_000_000_000
-  pub total3 : s .total3 ≤ 960_000_000_000_000
+  pub surveyed : s .surveyed ≤ mostSurveys
+  pub weight : s .weight ≤ mostSurveys * mostAmount
+  pub running : v .running ≤ mostHours
+  pub lines : v .lines < mostLines
+  pub fuel : gramsIn (fuelFigure (v .head) (v .fuel) (s .sulphur) (s .ash)) ≤ mostGrams
+  pub pollutant : (1 ≤ v .head .pollutant) × (v .head .pollutant ≤ totalCells)
+  pub totals : (i : ℕ) → getD soFar i 0 ≤ mostLines * mostGrams
 
 -- an end: the grams, the row and the totals
-pub record EndTaken (v : View) (s : Sums) (states : List ℕ) (first : ℕ) (conc flow out conc' flow' out' : List ℕ) (r : Taken) : Type 0 where
+pub record EndTaken (v : View) (s : Sums) (states : List ℕ) (first : ℕ) (conc flow : List ℕ) (d : Done) (conc' flow' : List ℕ) (d' : Done) (r : Taken) : Type 0 where
   pub grams : ℕ
-  pub small : grams ≤ 20_000_000_000_000
+  pub small : grams ≤ mostGrams
   pub figures : LineGrams (lineMethod v) v s states conc flow conc' flow' grams
   pub faults : r .fault ≡ fine
   pub view : r .view ≡ afterEnd v
-  pub sums : r .sums ≡ withGrams s (v .head .pollutant) grams
-  pub outNow : out' ≡ patched (λ k. getD (rowIn v (lineMethod v) grams first) k 0) 7 (7 * v .lines) out
+  pub sums : r .sums ≡ s
+  pub rowsNow : d' .rows ≡ putFrom (λ k. getD (rowIn v (lineMethod v) grams first) k 0) rowCells (rowCells * v .lines) (d .rows)
+  pub totalsNow : d' .totals ≡ withGrams (d .totals) (v .head .pollutant) grams

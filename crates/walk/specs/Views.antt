@@ -2,17 +2,17 @@
 use Prim.Native.Nat.{ℕ, _+_, _*_, max}
 use mathlib.Core.Bool.{Bool, true, false, not}
 use lib.Dec.{eqb}
+use Rattle.law.specs.Numbers.{hoursOfDay}
 use Rattle.law.specs.Words.{need, pick}
 use Rattle.rules.specs.declared.Head.{Head}
+use Rattle.rules.specs.declared.Masks.{Masks}
 use Rattle.rules.specs.declared.Surveys.{Surveys}
 use Rattle.rules.specs.declared.Batch.{Batch}
 use Rattle.rules.specs.declared.View.{View}
 use Rattle.rules.specs.Hours.{runningOf, missingOf}
-use Rattle.rules.specs.Judge.{refuse, fine, first, key}
+use Rattle.rules.specs.Judge.{refuse, fine, first, key, atPlace}
 use Rattle.rules.specs.Walk.{noHead}
 use Rattle.surveyed.specs.declared.Weighed.{Weighed}
-use Rattle.record.specs.declared.DayMasks.{DayMasks}
-use Rattle.rules.specs.declared.Fault.{Fault}
 use Rattle.walk.specs.declared.books.Sums.{Sums}
 use Rattle.walk.specs.declared.take.Taken.{Taken}
 use Rattle.walk.specs.declared.turns.Progress.{Progress}
@@ -30,9 +30,9 @@ openedView inside lines floor head =
 abbrev pub afterHead : View → Head → View
 afterHead v h = openedView true (v .lines) (key h + 1) h
 
-abbrev pub afterDay : View → DayMasks → View
-afterDay v d =
-    record { inside = v .inside; lines = v .lines; floor = v .floor; head = v .head; days = v .days + 1; running = runningOf (d .run) + v .running; missing = missingOf (d .run) (d .measured) + v .missing; enforcement = v .enforcement; plant = v .plant; batches = v .batches; fuel = v .fuel }
+abbrev pub afterDay : View → Masks → View
+afterDay v m =
+    record { inside = v .inside; lines = v .lines; floor = v .floor; head = v .head; days = v .days + 1; running = runningOf (m .run) + v .running; missing = missingOf (m .run) (m .measured) + v .missing; enforcement = v .enforcement; plant = v .plant; batches = v .batches; fuel = v .fuel }
 
 abbrev pub oneMore : Surveys → ℕ → Surveys
 oneMore s hour = record { count = s .count + 1; floor = hour + 1 }
@@ -52,41 +52,31 @@ afterBatch v kg =
 abbrev pub afterEnd : View → View
 afterEnd v = openedView false (v .lines + 1) (v .floor) noHead
 
--- the sums of a line that is opened: the totals stay, and its period's cells will be used
-abbrev pub openedSums : Sums → Head → Sums
-openedSums s h = record { surveyed = 0; weight = 0; sulphur = 0; ash = 0; used = 24 * h .days; total1 = s .total1; total2 = s .total2; total3 = s .total3 }
+-- no sums yet
+abbrev pub noSums : Sums
+noSums = record { surveyed = 0; weight = 0; sulphur = 0; ash = 0; used = 0 }
+
+-- the sums of a line that is opened: its period's cells will be used
+abbrev pub openedSums : Head → Sums
+openedSums h = record { surveyed = 0; weight = 0; sulphur = 0; ash = 0; used = hoursOfDay * h .days }
 
 -- what a survey adds
 abbrev pub withSurvey : Sums → Weighed → Sums
-withSurvey s w =
-    record { surveyed = s .surveyed + w .count; weight = w .weight + s .weight; sulphur = s .sulphur; ash = s .ash; used = s .used; total1 = s .total1; total2 = s .total2; total3 = s .total3 }
+withSurvey s w = record { surveyed = s .surveyed + w .count; weight = w .weight + s .weight; sulphur = s .sulphur; ash = s .ash; used = s .used }
 
 -- a batch more
 abbrev pub withFuel : Sums → Batch → Sums
-withFuel s b =
-    record { surveyed = s .surveyed; weight = s .weight; sulphur = max (b .sulphur) (s .sulphur); ash = b .kg * b .ash + s .ash; used = s .used; total1 = s .total1; total2 = s .total2; total3 = s .total3 }
-
--- no sums yet
-abbrev pub noSums : Sums
-noSums = record { surveyed = 0; weight = 0; sulphur = 0; ash = 0; used = 0; total1 = 0; total2 = 0; total3 = 0 }
+withFuel s b = record { surveyed = s .surveyed; weight = s .weight; sulphur = max (b .sulphur) (s .sulphur); ash = b .kg * b .ash + s .ash; used = s .used }
 
 -- nothing is read yet
 abbrev pub atStart : Progress
 atStart = record { fault = fine; at = 0; view = openedView false 0 0 noHead; sums = noSums }
 
--- a record is refused: nothing more is read
-abbrev pub refusedAt : Fault → ℕ → View → Sums → Progress
-refusedAt fault end v s = record { fault = fault; at = end; view = v; sums = s }
+-- after a record: the place after it; or, where it is refused, its fault at the file's place and nothing more to read
+abbrev pub movedOn : Taken → ℕ → ℕ → ℕ → Progress
+movedOn t at next end =
+    record { fault = atPlace at (t .fault); at = pick (eqb (t .fault .number) 0) next end; view = t .view; sums = t .sums }
 
--- after a record: the place after it, or the file's end where it is refused
-abbrev pub movedOn : Taken → ℕ → ℕ → Progress
-movedOn t next end = record { fault = t .fault; at = pick (eqb (t .fault .number) 0) next end; view = t .view; sums = t .sums }
-
--- 2 where a file that is not refused ends inside a line
-abbrev pub lastFault : Fault → Bool → ℕ → Fault
-lastFault fault inside end = first fault (need (refuse 2 end) (not inside) fine)
-
--- what the walk hands back
+-- what the walk hands back: 2 where a file that is not refused ends inside a line
 abbrev pub foundOf : Progress → ℕ → Tally
-foundOf p end =
-    record { fault = lastFault (p .fault) (p .view .inside) end; lines = p .view .lines; total1 = p .sums .total1; total2 = p .sums .total2; total3 = p .sums .total3 }
+foundOf p end = record { fault = first (p .fault) (need (refuse 2 end) (not (p .view .inside)) fine); lines = p .view .lines }

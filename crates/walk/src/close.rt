@@ -3,8 +3,9 @@ use crate::books::Sums;
 use fuel::FuelFigure;
 use rules::View;
 ghost use mathlib.Core.Path.{_≡_};
-ghost use Prim.Native.Nat.{_+_, _*_, _^_, _<_, _≤_};
-ghost use lib.ListN.{length};
+ghost use Prim.Native.Nat.{ℕ, _+_, _*_, _^_, _<_, _≤_};
+ghost use lib.ListN.{length, getD};
+ghost use Rattle.law.specs.Numbers.{hoursOfDay, mostHours, mostLines, totalCells, mostSurveys, mostAmount, mostGrams};
 ghost use Rattle.fills.specs.Weights.{products};
 ghost use Rattle.walk.specs.Closing.{gramsIn, periodWeight, lineGrams, withGrams};
 
@@ -34,7 +35,7 @@ fn weigh(conc: &[u32], flow: &[u32]) -> u64
 
 // The sum of c x l over the hours of the period.
 fn period_weight(conc: &[u32], flow: &[u32], days: u8) -> u64
-    requires { ⌜ (24 * days ≤ length (now conc)) × (24 * days ≤ length (now flow)) × (periodWeight days (now conc) (now flow) < 2 ^ 64) ⌝ }
+    requires { ⌜ (hoursOfDay * days ≤ length (now conc)) × (hoursOfDay * days ≤ length (now flow)) × (periodWeight days (now conc) (now flow) < 2 ^ 64) ⌝ }
     ensures { λ r. ⌜ r ≡ periodWeight days (now (conc .entry)) (now (flow .entry)) ⌝ }
 {
     let n = 24 * (days as usize);
@@ -43,7 +44,7 @@ fn period_weight(conc: &[u32], flow: &[u32], days: u8) -> u64
 
 // The grams of a line by its method and its cells, which are filled under method 1.
 pub fn line_grams(method: u32, v: View, s: Sums, conc: &[u32], flow: &[u32]) -> u64
-    requires { ⌜ (24 * v .head .days ≤ length (now conc)) × (24 * v .head .days ≤ length (now flow)) × (method ≡ 1 → periodWeight (v .head .days) (now conc) (now flow) < 2 ^ 64) × (s .weight ≤ 600_000_000_000_000) × (v .running ≤ 2208) ⌝ }
+    requires { ⌜ (hoursOfDay * v .head .days ≤ length (now conc)) × (hoursOfDay * v .head .days ≤ length (now flow)) × (method ≡ 1 → periodWeight (v .head .days) (now conc) (now flow) < 2 ^ 64) × (s .weight ≤ mostSurveys * mostAmount) × (v .running ≤ mostHours) ⌝ }
     ensures { λ r. ⌜ r ≡ lineGrams method v s (now (conc .entry)) (now (flow .entry)) ⌝ }
 {
     let h = v.head;
@@ -56,13 +57,11 @@ pub fn line_grams(method: u32, v: View, s: Sums, conc: &[u32], flow: &[u32]) -> 
     grams_in(fuel::fuel_figure(h, v.fuel, s.sulphur, s.ash))
 }
 
-pub fn with_grams(s: Sums, pollutant: u8, grams: u64) -> Sums
-    requires { ⌜ (grams ≤ 20_000_000_000_000) × (s .total1 ≤ 960_000_000_000_000) × (s .total2 ≤ 960_000_000_000_000) × (s .total3 ≤ 960_000_000_000_000) ⌝ }
-    ensures { λ r. ⌜ r ≡ withGrams s pollutant grams ⌝ }
+// "Each pollutant's grams summed": a line's grams go to the total of its pollutant.
+pub fn add_grams(totals: &mut [u64; 3], pollutant: u8, grams: u64)
+    requires { ⌜ (1 ≤ pollutant) × (pollutant ≤ totalCells) × (grams ≤ mostGrams) × ((i : ℕ) → getD (now totals) i 0 ≤ mostLines * mostGrams) ⌝ }
+    ensures { λ _. ⌜ now (totals .exit) ≡ withGrams (now (totals .entry)) pollutant grams ⌝ }
 {
-    let mut n = s;
-    n.total1 = line::share(pollutant, 1, grams) + s.total1;
-    n.total2 = line::share(pollutant, 2, grams) + s.total2;
-    n.total3 = line::share(pollutant, 3, grams) + s.total3;
-    n
+    let i = (pollutant - 1) as usize;
+    totals[i] = grams + totals[i];
 }

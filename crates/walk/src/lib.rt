@@ -1,16 +1,17 @@
 // One walk over the file: the answer, the rows of all its lines, and the work cells.
 mod books; // books.rt
 mod close; // close.rt
-mod tables; // tables.rt
+mod put; // put.rt
 mod turns; // turns.rt
 mod take; // take.rt
 
-use crate::turns::walk;
+use crate::turns::walk_records;
 use rules::Answer;
 use rules::Fault;
 ghost use mathlib.Core.Path.{_≡_};
 ghost use mathlib.Core.List.{[]};
 ghost use lib.ListN.{length};
+ghost use Rattle.law.specs.Numbers.{mostHours};
 ghost use Rattle.rules.specs.Row.{cells};
 ghost use Rattle.rules.specs.Account.{Promise};
 ghost use Rattle.walk.specs.Books.{noRows};
@@ -31,9 +32,7 @@ fn refused(f: Fault) -> Walked
             number: f.number,
             place: f.place,
             rows: 0,
-            total1: 0,
-            total2: 0,
-            total3: 0,
+            totals: [0u64; 3],
         },
         rows: [0u64; 336],
     }
@@ -41,7 +40,7 @@ fn refused(f: Fault) -> Walked
 
 // Both work tables cleared, and the refusal answered.
 fn stop(f: Fault, conc: &mut [u32], flow: &mut [u32]) -> Walked
-    requires { ⌜ (length (now conc) ≡ 2208) × (length (now flow) ≡ 2208) ⌝ }
+    requires { ⌜ (length (now conc) ≡ mostHours) × (length (now flow) ≡ mostHours) ⌝ }
     ensures { λ r. ⌜ (r ≡ stopped f) × (now (conc .exit) ≡ cells []) × (now (flow .exit) ≡ cells []) ⌝ }
 {
     cells::clear_quarter(conc);
@@ -51,11 +50,12 @@ fn stop(f: Fault, conc: &mut [u32], flow: &mut [u32]) -> Walked
 
 // The walk where both work tables have 2,208 cells.
 fn settle(file: &[u8], conc: &mut [u32], flow: &mut [u32]) -> Walked
-    requires { ⌜ (length (now conc) ≡ 2208) × (length (now flow) ≡ 2208) ⌝ }
+    requires { ⌜ (length (now conc) ≡ mostHours) × (length (now flow) ≡ mostHours) ⌝ }
     ensures { λ r. ⌜ Settled (now (file .entry)) noRows (r .answer) (r .rows) (now (conc .exit)) (now (flow .exit)) ⌝ }
 {
-    let mut out = [0u64; 336];
-    let w = walk(file, &mut out, conc, flow);
+    let mut rows = [0u64; 336];
+    let mut totals = [0u64; 3];
+    let w = walk_records(file, &mut rows, &mut totals, conc, flow);
     let f = w.fault;
     if f.number != 0 {
         return stop(f, conc, flow);
@@ -65,11 +65,9 @@ fn settle(file: &[u8], conc: &mut [u32], flow: &mut [u32]) -> Walked
             number: 0,
             place: 0,
             rows: w.lines as usize,
-            total1: w.total1,
-            total2: w.total2,
-            total3: w.total3,
+            totals,
         },
-        rows: out,
+        rows,
     }
 }
 

@@ -5,15 +5,16 @@ use crate::books::Sums;
 use crate::take::FINE;
 use crate::take::Taken;
 use crate::take::take;
-use record::Record;
 use rules::Fault;
+use rules::Record;
 use rules::View;
 ghost use mathlib.Core.Path.{_≡_};
-ghost use Prim.Native.Nat.{_<_, _≤_};
-ghost use lib.ListN.{length, take};
-ghost use Rattle.judge.specs.Flat.{judgeFlat};
+ghost use Prim.Native.Nat.{_+_, _<_, _≤_};
+ghost use lib.ListN.{length, take, replicate};
+ghost use Rattle.law.specs.Numbers.{mostHours, totalCells};
+ghost use Rattle.rules.specs.Judge.{judgeRecord};
 ghost use Rattle.walk.specs.Views.{movedOn, foundOf};
-ghost use Rattle.walk.specs.Books.{noRows};
+ghost use Rattle.walk.specs.Books.{noRows, inOpen, inDone};
 ghost use Rattle.walk.specs.Walking.{Reached, WalkPromise};
 
 // How far the walk is: the first fault or none, the next place to read, the view and the sums.
@@ -24,13 +25,10 @@ pub struct Progress {
     pub sums: Sums,
 }
 
-// What the walk found: a fault, or the lines and their totals.
+// What the walk found: a fault, or how many lines.
 pub struct Tally {
     pub fault: Fault,
     pub lines: u32,
-    pub total1: u64,
-    pub total2: u64,
-    pub total3: u64,
 }
 
 // Nothing is read.
@@ -42,25 +40,36 @@ const START: Progress = Progress {
 };
 
 // The run masks of the days so far are lent to the judge.
-fn judged(at: usize, v: View, runs: &[u32], r: Record) -> Fault
+fn judged(v: View, runs: &[u32], r: Record) -> Fault
     requires { ⌜ v .days ≤ length (now runs) ⌝ }
-    ensures { λ f. ⌜ f ≡ judgeFlat at v (take (v .days) (now (runs .entry))) r ⌝ }
+    ensures { λ f. ⌜ f ≡ judgeRecord v (take (v .days) (now (runs .entry))) r ⌝ }
 {
     let d = v.days as usize;
-    judge::judge_flat(at, v, &runs[0..d], r)
+    judge::judge_record(v, &runs[0..d], r)
 }
 
-// After a refusal nothing more is read.
-fn moved_on(t: Taken, next: usize, end: usize) -> Progress
-    ensures { λ r. ⌜ r ≡ movedOn t next end ⌝ }
+// The record's place is added to its fault, here and nowhere else. After a refusal nothing more is read.
+fn moved_on(t: Taken, at: usize, next: usize, end: usize) -> Progress
+    requires { ⌜ at + t .fault .place ≤ end ⌝ }
+    ensures { λ r. ⌜ r ≡ movedOn t at next end ⌝ }
 {
-    let fault = t.fault;
+    let f = t.fault;
     let view = t.view;
     let sums = t.sums;
-    let at = if fault.number == 0 { next } else { end };
+    if f.number == 0 {
+        return Progress {
+            fault: FINE,
+            at: next,
+            view,
+            sums,
+        };
+    }
     Progress {
-        fault,
-        at,
+        fault: Fault {
+            number: f.number,
+            place: at + f.place,
+        },
+        at: end,
         view,
         sums,
     }
@@ -75,27 +84,41 @@ fn step(
     flags: &mut [u32; 2208],
     conc: &mut [u32],
     flow: &mut [u32],
-    out: &mut [u64; 336],
+    rows: &mut [u64; 336],
+    totals: &mut [u64; 3],
 ) -> Progress
-    requires { ⌜ Reached (now file) p (now runs) (now measured) (now flags) (now conc) (now flow) (now out) × (p .at < length (now file)) ⌝ }
-    ensures { λ q. ⌜ Reached (now (file .entry)) q (now (runs .exit)) (now (measured .exit)) (now (flags .exit)) (now (conc .exit)) (now (flow .exit)) (now (out .exit)) × (p .at < q .at) ⌝ }
+    requires { ⌜ Reached (now file) p (inOpen (now runs) (now measured) (now flags) (now conc) (now flow)) (inDone (now rows) (now totals)) × (p .at < length (now file)) ⌝ }
+    ensures { λ q. ⌜ Reached (now (file .entry)) q (inOpen (now (runs .exit)) (now (measured .exit)) (now (flags .exit)) (now (conc .exit)) (now (flow .exit))) (inDone (now (rows .exit)) (now (totals .exit)))
+        × (p .at < q .at) ⌝ }
 {
     let at = p.at;
     let v = p.view;
     let s = p.sums;
     let bytes = &file[at..];
     let r = record::read_record(bytes);
-    let f = judged(at, v, runs, r);
+    let f = judged(v, runs, r);
     if f.number != 0 {
-        return Progress {
+        let refused = Taken {
             fault: f,
-            at: file.len(),
             view: v,
             sums: s,
         };
+        return moved_on(refused, at, file.len(), file.len());
     }
-    let t = take(at, bytes, r, v, s, runs, measured, flags, conc, flow, out);
-    moved_on(t, at + record::size_of(r), file.len())
+    let t = take(
+        bytes,
+        r,
+        v,
+        s,
+        runs,
+        measured,
+        flags,
+        conc,
+        flow,
+        rows,
+        totals,
+    );
+    moved_on(t, at, at + record::size_in(bytes), file.len())
 }
 
 // A file that is not refused may still end inside a line.
@@ -104,19 +127,36 @@ fn found(p: Progress, end: usize) -> Tally
 {
     let f = p.fault;
     let v = p.view;
-    let s = p.sums;
+    if f.number != 0 {
+        return Tally {
+            fault: f,
+            lines: v.lines,
+        };
+    }
+    if v.inside {
+        return Tally {
+            fault: Fault {
+                number: 2,
+                place: end,
+            },
+            lines: v.lines,
+        };
+    }
     Tally {
-        fault: faults::first_of(f, faults::refuse_unless(2, end, !v.inside)),
+        fault: FINE,
         lines: v.lines,
-        total1: s.total1,
-        total2: s.total2,
-        total3: s.total3,
     }
 }
 
-pub fn walk(file: &[u8], out: &mut [u64; 336], conc: &mut [u32], flow: &mut [u32]) -> Tally
-    requires { ⌜ (now out ≡ noRows) × (length (now conc) ≡ 2208) × (length (now flow) ≡ 2208) ⌝ }
-    ensures { λ w. ⌜ WalkPromise (now (file .entry)) (now (out .exit)) (now (conc .exit)) (now (flow .exit)) w ⌝ }
+pub fn walk_records(
+    file: &[u8],
+    rows: &mut [u64; 336],
+    totals: &mut [u64; 3],
+    conc: &mut [u32],
+    flow: &mut [u32],
+) -> Tally
+    requires { ⌜ (now rows ≡ noRows) × (now totals ≡ replicate totalCells 0) × (length (now conc) ≡ mostHours) × (length (now flow) ≡ mostHours) ⌝ }
+    ensures { λ w. ⌜ WalkPromise (now (file .entry)) (inDone (now (rows .exit)) (now (totals .exit))) (now (conc .exit)) (now (flow .exit)) w ⌝ }
 {
     let mut runs = [0u32; 92];
     let mut measured = [0u32; 92];
@@ -133,7 +173,8 @@ pub fn walk(file: &[u8], out: &mut [u64; 336], conc: &mut [u32], flow: &mut [u32
             &mut flags,
             conc,
             flow,
-            out,
+            rows,
+            totals,
         );
         p = q;
     }

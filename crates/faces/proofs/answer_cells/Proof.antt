@@ -1,16 +1,15 @@
 -- `faces::answer_cells` meets its contract: the cells are the answer's fields in their order. Assumes nothing.
 use mathlib.Core.Path.{refl}
 use borrow.Author.Needs.{needs}
+use Rattle.law.specs.Words.{table}
 use Rattle.faces.specs.Faces.{answerCells}
 use Rattle.faces.proofs.answer_cells.Statement.{statement}
 use Rattle.faces.proofs.answer_cells.Tie as tie
 
-cast-t2 : tie.Need-cast-t2
-cast-t2 c = search needs
-
 returns : tie.Need-returns
-unfolding answerCells
+unfolding answerCells table
 returns c = refl
 
 pub answer-cells-spec : {M : Type 1} → statement M
-answer-cells-spec = tie.close (tie.spec cast-t2 returns)
+answer-cells-spec =
+    tie.close (tie.spec (λ c. search needs) (λ c. search needs) (λ c. search needs) (λ c. search needs) returns)

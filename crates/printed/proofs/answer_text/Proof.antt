@@ -45,7 +45,7 @@ same-length-2 c = search needs
 returns-2 : tie.Need-returns-2
 returns-2 c =
     let w = c .before .before in
-    let t = w .before .before .before .before in
+    let t = w .before .before .before .before .before in
     let a = t .before .before .before .before .before in
     text-of _ _ _ _ _ (answer-stated _ _ _ _ _ _ _ _ (a .account .ensures) (t .if1 .left) (a .account .kept .1 .0)) (w .stated-text .ensures)
 

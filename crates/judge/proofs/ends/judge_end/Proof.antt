@@ -3,7 +3,7 @@ use mathlib.Core.Path.{_∙_}
 use Rattle.law.specs.Words.{needAll}
 use Rattle.law.proofs.Tests.{need-both}
 use Rattle.rules.specs.Judge.{placeEnd}
-use Rattle.faults.proofs.Laws.{first-parts}
+use Rattle.rules.proofs.Faults.{first-parts}
 use borrow.Author.Needs.{needs}
 use Rattle.judge.proofs.ends.judge_end.Statement.{statement}
 use Rattle.judge.proofs.ends.judge_end.Tie as tie

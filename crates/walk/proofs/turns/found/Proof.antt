@@ -1,16 +1,21 @@
--- `walk::turns::found` meets its contract. Assumes nothing.
-use borrow.Author.Needs.{needs}
-use mathlib.Core.Path.{ap, _∙_}
-use Rattle.rules.specs.declared.Fault.{Fault}
-use Rattle.rules.specs.Judge.{first}
-use Rattle.walk.specs.declared.turns.Tally.{Tally}
+-- `walk::turns::found` meets its contract, by its two tests. Assumes nothing.
+use borrow.Author.Tests.{eq-eqb, ne-eqb}
+use Rattle.law.specs.Words.{need}
+use Rattle.rules.specs.Judge.{refuse, fine, first}
 use Rattle.walk.proofs.turns.found.Statement.{statement}
 use Rattle.walk.proofs.turns.found.Tie as tie
 
 returns : tie.Need-returns
-returns c =
-    let p = c .before .before .before .before .before .before .args .p in
-    ap (λ (f : Fault). let w : Tally = record { fault = f; lines = p .view .lines; total1 = p .sums .total1; total2 = p .sums .total2; total3 = p .sums .total3 } in w) (c .first-of .ensures ∙ ap (first (p .fault)) (c .before .refuse-unless .ensures))
+unfolding first need
+returns c = rw (ne-eqb _ 0 (c .if1 .taken))
+
+returns-2 : tie.Need-returns-2
+unfolding first need refuse fine
+returns-2 c = rw (eq-eqb _ 0 (c .before .if1 .left), c .if2 .taken)
+
+returns-3 : tie.Need-returns-3
+unfolding first need refuse fine
+returns-3 c = rw (eq-eqb _ 0 (c .before .if1 .left), c .if2 .left)
 
 pub found-spec : {M : Type 1} → statement M
-found-spec = tie.close (tie.spec (λ c κs. search needs) (λ c κs. search needs) returns)
+found-spec = tie.close (tie.spec returns returns-2 returns-3)

@@ -5,7 +5,7 @@ use Prim.Native.Nat.{ℕ, _-_}
 use native.Mathlib.Omega.{arith}
 use lib.ListN.{take}
 use denote.Ref.{now}
-use Rattle.judge.specs.Flat.{judgeFlat}
+use Rattle.rules.specs.Judge.{judgeRecord}
 use Rattle.walk.proofs.turns.judged.Statement.{statement}
 use Rattle.walk.proofs.turns.judged.Tie as tie
 
@@ -13,7 +13,7 @@ returns : tie.Need-returns
 returns c =
     let a = c .before .before .before .before .args in
     let e : a .v .days - 0 ≡ a .v .days = omega arith in
-    c .judge-flat .ensures ∙ ap (λ (n : ℕ). judgeFlat (a .at) (a .v) (take n (now (a .runs))) (a .r)) e
+    c .judge-record .ensures ∙ ap (λ (n : ℕ). judgeRecord (a .v) (take n (now (a .runs))) (a .r)) e
 
 pub judged-spec : {M : Type 1} → statement M
 judged-spec =

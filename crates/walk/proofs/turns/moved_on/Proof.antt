@@ -1,20 +1,18 @@
--- `walk::turns::moved_on` meets its contract. Assumes nothing.
-use mathlib.Core.Path.{refl, ap}
-use Prim.Native.Nat.{ℕ}
-use Rattle.law.proofs.Tests.{pick-eq, pick-not-eq}
-use Rattle.walk.specs.Views.{refusedAt}
+-- `walk::turns::moved_on` meets its contract, by whether the record is refused. Assumes nothing.
+use borrow.Author.Needs.{needs}
+use Rattle.law.specs.Words.{need, pick}
+use Rattle.rules.specs.Judge.{refuse, fine, atPlace}
+use borrow.Author.Tests.{eq-eqb, ne-eqb}
 use Rattle.walk.proofs.turns.moved_on.Statement.{statement}
 use Rattle.walk.proofs.turns.moved_on.Tie as tie
 
 returns : tie.Need-returns
-returns c =
-    let t = c .before .before .before .before .before .args .t in
-    ap (λ (n : ℕ). refusedAt (t .fault) n (t .view) (t .sums)) (pick-eq _ _ _ _ _ (c .if1 .taken) refl)
+unfolding atPlace need pick fine refuse
+returns c = rw (eq-eqb _ 0 (c .if1 .taken))
 
 returns-2 : tie.Need-returns-2
-returns-2 c =
-    let t = c .before .before .before .before .before .args .t in
-    ap (λ (n : ℕ). refusedAt (t .fault) n (t .view) (t .sums)) (pick-not-eq _ _ _ _ _ (c .if1 .left) refl)
+unfolding atPlace need pick fine refuse
+returns-2 c = rw (ne-eqb _ 0 (c .before .if1 .left))
 
 pub moved-on-spec : {M : Type 1} → statement M
-moved-on-spec = tie.close (tie.spec returns returns-2)
+moved-on-spec = tie.close (tie.spec returns (λ c. search needs) returns-2)

@@ -3,7 +3,7 @@ use borrow.Author.Needs.{needs}
 use native.Mathlib.Omega.{arith}
 use mathlib.Core.List.{[]}
 use Rattle.walk.proofs.Takes.{days-lent}
-use Rattle.walk.proofs.Going.{step-refused, ready, fits, step-on}
+use Rattle.walk.proofs.Going.{refused-within, step-refused, ready, fits, taken-within, step-on}
 use Rattle.walk.proofs.turns.step.Statement.{statement}
 use Rattle.walk.proofs.turns.step.Tie as tie
 
@@ -11,36 +11,56 @@ judged-requires : tie.Need-judged-requires
 judged-requires c κs =
     let p = c .before .before .before .before .before .before .before .before .before .pre in
     let g = p .0 .goes (p .0 .reads (p .1)) in
-    omega (arith, days-lent 0 [] _ _ _ _ _ _ _ _ (g .stand) (g .kept))
+    omega (arith, days-lent [] _ _ _ _ (g .stand) (g .kept))
+
+moved-on-requires : tie.Need-moved-on-requires
+moved-on-requires c κs =
+    let j = c .before .before in
+    let p = j .before .before .before .before .before .before .before .before .before .before .pre in
+    let g = p .0 .goes (p .0 .reads (p .1)) in
+    refused-within _ _ _ _ _ _ g (p .1) _ (j .before .before .before .read-record .ensures) _ (j .judged .ensures)
 
 returns : tie.Need-returns
 returns c =
-    let p = c .before .before .before .before .before .before .before .before .before .before .before .before .pre in
+    let t = c .before in
+    let j = t .before .before in
+    let p = j .before .before .before .before .before .before .before .before .before .before .pre in
     let g = p .0 .goes (p .0 .reads (p .1)) in
-    step-refused _ _ _ _ _ _ _ _ _ _ g (p .1) _ (c .before .before .before .before .before .read-record .ensures) _ (c .before .before .judged .ensures) (c .if1 .taken)
+    step-refused _ _ _ _ _ _ g (p .1) _ (j .before .before .before .read-record .ensures) _ (j .judged .ensures) (t .if1 .taken) _ (c .moved-on .ensures)
 
 take-requires : tie.Need-take-requires
 take-requires c κs =
-    let j = c .before .before .before .before .before .before .before .before in
+    let e = c .before .before .before .before .before .before .before in
+    let j = e .before .before in
     let p = j .before .before .before .before .before .before .before .before .before .before .pre in
     let g = p .0 .goes (p .0 .reads (p .1)) in
-    ready _ _ _ _ _ _ _ _ _ _ g (p .1) _ (j .before .before .before .read-record .ensures) _ (j .judged .ensures) (c .before .before .before .before .before .before .if1 .left)
+    ready _ _ _ _ _ _ g (p .1) _ (j .before .before .before .read-record .ensures) _ (j .judged .ensures) (e .if1 .left)
 
 add-moved-on : tie.Need-add-moved-on
 add-moved-on c =
-    let i = c .before .before .before .before .before .before .before .before .before .before .before .before in
-    let j = i .before .before in
+    let e = c .before .before .before .before .before .before .before .before .before .before .before .before .before in
+    let j = e .before .before in
     let p = j .before .before .before .before .before .before .before .before .before .before .pre in
     let g = p .0 .goes (p .0 .reads (p .1)) in
-    omega (arith, fits _ _ _ _ _ _ _ _ _ _ g (p .1) _ (j .before .before .before .read-record .ensures) _ (j .judged .ensures) (i .if1 .left), c .size-of .ensures, j .before .before .before .before .before .before .before .before .before)
+    omega (arith, fits _ _ _ _ _ _ g (p .1) _ (j .before .before .before .read-record .ensures) _ (j .judged .ensures) (e .if1 .left), c .size-in .ensures, j .before .before .before .before .before .before .before .before .before)
+
+moved-on-requires-2 : tie.Need-moved-on-requires-2
+moved-on-requires-2 c κs =
+    let t = c .before .before .before .before .before in
+    let e = t .before .before .before .before .before .before .before .before in
+    let j = e .before .before in
+    let p = j .before .before .before .before .before .before .before .before .before .before .pre in
+    let g = p .0 .goes (p .0 .reads (p .1)) in
+    taken-within _ _ _ _ _ _ g (p .1) _ (j .before .before .before .read-record .ensures) _ (j .judged .ensures) (e .if1 .left) _ _ _ (t .take .ensures)
 
 returns-2 : tie.Need-returns-2
 returns-2 c =
     let t = c .before .before .before .before .before .before in
-    let j = t .before .before .before .before .before .before .before .before .before in
+    let e = t .before .before .before .before .before .before .before .before in
+    let j = e .before .before in
     let p = j .before .before .before .before .before .before .before .before .before .before .pre in
     let g = p .0 .goes (p .0 .reads (p .1)) in
-    step-on _ _ _ _ _ _ _ _ _ _ g (p .1) _ (j .before .before .before .read-record .ensures) _ (j .judged .ensures) (t .before .before .before .before .before .before .before .if1 .left) _ _ _ _ _ _ _ (t .take .ensures) _ _ (c .before .size-of .ensures) (c .moved-on .ensures)
+    step-on _ _ _ _ _ _ g (p .1) _ (j .before .before .before .read-record .ensures) _ (j .judged .ensures) (e .if1 .left) _ _ _ (t .take .ensures) _ _ (c .before .size-in .ensures) (c .moved-on2 .ensures)
 
 pub step-spec : {M : Type 1} → statement M
 step-spec =
@@ -51,11 +71,12 @@ step-spec =
     (λ c. search needs)
     (λ c κs. search needs)
     judged-requires
+    moved-on-requires
     returns
     take-requires
     (λ c κs. search needs)
     add-moved-on
-    (λ c κs. search needs)
+    moved-on-requires-2
     (λ c. search needs)
     (λ c. search needs)
     returns-2)

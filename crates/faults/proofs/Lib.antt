@@ -1,3 +1,0 @@
--- Laws of faults in a row.
-pub mod Laws
-pub mod Only

@@ -1,0 +1,31 @@
+// A refusal as number and offset: one where a test fails, and the first of two.
+use rules::Fault;
+ghost use mathlib.Core.Path.{_≡_};
+ghost use Rattle.law.specs.Words.{need};
+ghost use Rattle.rules.specs.Judge.{refuse, fine, first};
+
+// Nothing is refused.
+pub const FINE: Fault = Fault {
+    number: 0,
+    place: 0,
+};
+
+// The refusal, at the record's start, of what does not fit. Tests are taken together, with no branch between them.
+pub fn refuse_unless(number: u32, fits: bool) -> Fault
+    ensures { λ f. ⌜ f ≡ need (refuse number 0) fits fine ⌝ }
+{
+    if fits {
+        return FINE;
+    }
+    Fault { number, place: 0 }
+}
+
+// The first of two faults.
+pub fn first_of(f: Fault, g: Fault) -> Fault
+    ensures { λ r. ⌜ r ≡ first f g ⌝ }
+{
+    if f.number != 0 {
+        return f;
+    }
+    g
+}

@@ -1,0 +1,51 @@
+// A survey judged: out of place 2, by its kind; then 3, 4, 5.
+use crate::faults::first_of;
+use crate::faults::refuse_unless;
+use rules::Fault;
+use rules::Survey;
+use rules::View;
+ghost use mathlib.Core.Bool.{_&&_};
+ghost use mathlib.Core.Path.{_≡_};
+ghost use lib.Dec.{leb, eqb};
+ghost use Rattle.rules.specs.Judge.{first, placeEnforcement, placePlant, surveysLeft, judgeSurvey};
+
+// Outside a line, before the last day, after fuel, hours not rising, one too many: "at most 120 surveys of both kinds together".
+fn in_place(v: View, floor: u32, hour: u16) -> bool
+    ensures { λ r. ⌜ r ≡ (v .inside && eqb (v .days) (v .head .days) && eqb (v .batches) 0 && leb floor hour && surveysLeft v) ⌝ }
+{
+    let phase = v.inside & (v.days == v.head.days as u32) & (v.batches == 0);
+    let left = (v.enforcement.count as u64) + (v.plant.count as u64) < 120;
+    phase & (hour as u32 >= floor) & left
+}
+
+// "Survey hour past the period", then its readings, then its hour: "survey in a stopped hour".
+fn judge_survey(v: View, runs: &[u32], s: Survey) -> Fault
+    ensures { λ f. ⌜ f ≡ judgeSurvey v (now (runs .entry)) s ⌝ }
+{
+    let pair = s.pair;
+    first_of(
+        refuse_unless(3, (s.hour as u32) < 24 * (v.head.days as u32)),
+        first_of(
+            day_hour::judge_pair(pair),
+            refuse_unless(5, hours::runs_at(runs, s.hour)),
+        ),
+    )
+}
+
+// Kind 3: no plant survey before it.
+pub fn judge_enforcement(v: View, runs: &[u32], s: Survey) -> Fault
+    ensures { λ f. ⌜ f ≡ first (placeEnforcement v s) (judgeSurvey v (now (runs .entry)) s) ⌝ }
+{
+    let placed = (v.plant.count == 0) & in_place(v, v.enforcement.floor, s.hour);
+    first_of(refuse_unless(2, placed), judge_survey(v, runs, s))
+}
+
+// Kind 4.
+pub fn judge_plant(v: View, runs: &[u32], s: Survey) -> Fault
+    ensures { λ f. ⌜ f ≡ first (placePlant v s) (judgeSurvey v (now (runs .entry)) s) ⌝ }
+{
+    first_of(
+        refuse_unless(2, in_place(v, v.plant.floor, s.hour)),
+        judge_survey(v, runs, s),
+    )
+}

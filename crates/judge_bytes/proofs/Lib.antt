@@ -1,3 +1,0 @@
--- Laws of a record in bytes, judged.
-pub mod Laws
-pub mod Only

@@ -1,2 +1,0 @@
--- A record in bytes, judged.
-pub mod Days

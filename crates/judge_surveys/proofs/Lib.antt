@@ -1,2 +1,0 @@
--- What the proofs of the code lean on.
-pub mod Only

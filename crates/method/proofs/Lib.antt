@@ -1,2 +1,0 @@
--- What the method call leaves to be shown.
-pub mod Only

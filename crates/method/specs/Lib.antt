@@ -1,2 +1,0 @@
--- Document 01, "Which method": the method of the line that is open.
-pub mod Open

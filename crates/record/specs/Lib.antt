@@ -1,2 +1,0 @@
--- Document 01, "The record file": what the code keeps of a record.
-pub mod Flat
