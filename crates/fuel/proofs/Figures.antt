@@ -21,7 +21,7 @@ use Rattle.rules.specs.Tables.{coefficientsOf}
 use Rattle.rules.specs.Lines.{fuel}
 use Rattle.rules.specs.Grams.{sulphurOf, fuelTop, fuelBottom, fuelGrams}
 use Rattle.fuel.specs.declared.FuelFigure.{FuelFigure}
-use Rattle.fuel.specs.declared.FuelFigure.the-variants.{Grams, NoEntry}
+use Rattle.fuel.specs.declared.FuelFigure.the-variants.{Grams, WithoutEntry}
 use Rattle.fuel.specs.Fuel.{ashOf, topOf, figureOf, fuelFigure, InRange}
 use Rattle.tables.proofs.Bounds.{small, coefficients-small}
 use Rattle.fuel.proofs.Batches.{top-is}
@@ -96,7 +96,7 @@ module _ (h : Head) (batches : List Batch) (i : InRange batches) where
   pub line-figure : (coefficientsOf h ≡ Wanting → ⊥) → fuelFigure h (fuel batches) (sulphurOf batches) (ashOf batches) ≡ Grams (fuelGrams (coefficientsOf h) batches)
   line-figure n = sym (in-range h _ _ _ (coefficientsOf h) _ (i .kg) (i .sulphur) (omega arith) refl (sym (figure-is (coefficientsOf h) batches n)))
 
-  pub line-wanting : coefficientsOf h ≡ Wanting → fuelFigure h (fuel batches) (sulphurOf batches) (ashOf batches) ≡ NoEntry
+  pub line-wanting : coefficientsOf h ≡ Wanting → fuelFigure h (fuel batches) (sulphurOf batches) (ashOf batches) ≡ WithoutEntry
   unfolding figureOf
   line-wanting e = sym (in-range h _ _ _ Wanting _ (i .kg) (i .sulphur) (omega arith) e refl)
 

@@ -11,7 +11,7 @@ use Rattle.rules.specs.Tables.{coefficientsOf}
 use Rattle.rules.specs.Lines.{fuel}
 use Rattle.rules.specs.Grams.{sulphurOf, fuelBottom}
 use Rattle.fuel.specs.declared.FuelFigure.{FuelFigure}
-use Rattle.fuel.specs.declared.FuelFigure.the-variants.{Grams, NoEntry, OutOfRange}
+use Rattle.fuel.specs.declared.FuelFigure.the-variants.{Grams, WithoutEntry, OutOfRange}
 
 -- the sum of kg x ash over batches
 unfoldable pub ashOf : List Batch → ℕ
@@ -35,7 +35,7 @@ unfoldable pub figureOf : Coefficients → ℕ → ℕ → ℕ → FuelFigure
 figureOf (Balance q k) kg sulphur ash = Grams (halvesUp (topOf (Balance q k) kg sulphur ash) (fuelBottom (Balance q k)))
 figureOf (Oxides coefficient) kg sulphur ash = Grams (halvesUp (topOf (Oxides coefficient) kg sulphur ash) (fuelBottom (Oxides coefficient)))
 figureOf (Dust a b) kg sulphur ash = Grams (halvesUp (topOf (Dust a b) kg sulphur ash) (fuelBottom (Dust a b)))
-figureOf Wanting kg sulphur ash = NoEntry
+figureOf Wanting kg sulphur ash = WithoutEntry
 
 -- "a line's fuel at most 10,000,000,000 kg", "sulphur at most 2,000, ash at most 10,000"
 unfoldable pub fuelFigure : Head → ℕ → ℕ → ℕ → FuelFigure
@@ -48,5 +48,5 @@ fuelFigure h kg sulphur ash =
 -- the paper's number for each case: 7 "no table entry", 3 "field .. or fuel sum out of range"
 unfoldable pub numberOf : FuelFigure → ℕ
 numberOf (Grams g) = 0
-numberOf NoEntry = 7
+numberOf WithoutEntry = 7
 numberOf OutOfRange = 3

@@ -10,7 +10,7 @@ use rules::Head;
 // The grams by fuel; that a table entry is wanting; or that an amount is out of the document's range.
 pub enum FuelFigure {
     Grams(u64),
-    NoEntry,
+    WithoutEntry,
     OutOfRange,
 }
 
@@ -40,7 +40,7 @@ fn figure(h: Head, kg: u64, sulphur: u16, ash: u64) -> FuelFigure
             let top = (a as u64) * ash + 100 * (b as u64) * kg;
             FuelFigure::Grams(halves_up(top, 10_000))
         }
-        Coefficients::NoEntry => FuelFigure::NoEntry,
+        Coefficients::NoEntry => FuelFigure::WithoutEntry,
     }
 }
 

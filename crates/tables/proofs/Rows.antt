@@ -5,7 +5,7 @@ use Prim.Native.Nat.{ℕ, zero, suc, _-_, _≤_}
 use native.Mathlib.Omega.{arith}
 use lib.ListN.{length, getD, List·getD-eq-default}
 use Rattle.rules.specs.declared.Entry.the-variants.{Found, Absent}
-use Rattle.rules.specs.declared.DustEntry.the-variants.{Both, Neither}
+use Rattle.rules.specs.declared.DustEntry.the-variants.{FoundBoth, AbsentBoth}
 use Rattle.rules.specs.Tables.{at}
 use Rattle.tables.specs.Rows.{entryOf, pairOf, entriesOf}
 
@@ -40,11 +40,11 @@ module _ (place : ℕ) (row : List ℕ) where
   at-found h n = found (getD row (place - 1) 0) n ∙ at-cell h
 
 -- ---- a and b of dust
-pub pair-dash : (a b : ℕ) → a ≡ 0 → Neither ≡ pairOf a b
+pub pair-dash : (a b : ℕ) → a ≡ 0 → AbsentBoth ≡ pairOf a b
 unfolding pairOf
 pair-dash a b e = rw e
 
-pub pair-found : (a b : ℕ) → (a ≡ 0 → ⊥) → Both a b ≡ pairOf a b
+pub pair-found : (a b : ℕ) → (a ≡ 0 → ⊥) → FoundBoth a b ≡ pairOf a b
 unfolding pairOf
 pair-found zero b h = absurd (h refl)
 pair-found (suc a) b h = refl

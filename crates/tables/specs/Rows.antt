@@ -4,7 +4,7 @@ use mathlib.Core.List.{List, map}
 use Rattle.rules.specs.declared.Entry.{Entry}
 use Rattle.rules.specs.declared.Entry.the-variants.{Found, Absent}
 use Rattle.rules.specs.declared.DustEntry.{DustEntry}
-use Rattle.rules.specs.declared.DustEntry.the-variants.{Both, Neither}
+use Rattle.rules.specs.declared.DustEntry.the-variants.{FoundBoth, AbsentBoth}
 use Rattle.rules.specs.Tables.{SizeClass}
 use Rattle.tables.specs.declared.classes.ClassRow.{ClassRow}
 
@@ -15,8 +15,8 @@ entryOf (suc n) = Found (suc n)
 
 -- a and b of dust in a row of the code, likewise
 unfoldable pub pairOf : ℕ → ℕ → DustEntry
-pairOf zero b = Neither
-pairOf (suc a) b = Both (suc a) b
+pairOf zero b = AbsentBoth
+pairOf (suc a) b = FoundBoth (suc a) b
 
 -- a row of the code
 unfoldable pub entriesOf : List ℕ → List Entry

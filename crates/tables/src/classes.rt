@@ -18,9 +18,9 @@ fn dust_pair(a: u32, b: u32) -> DustEntry
     ensures { λ r. ⌜ r ≡ pairOf a b ⌝ }
 {
     if a == 0 {
-        return DustEntry::Neither;
+        return DustEntry::AbsentBoth;
     }
-    DustEntry::Both(a, b)
+    DustEntry::FoundBoth(a, b)
 }
 
 // A row as the document prints it, with 0 for a dash.

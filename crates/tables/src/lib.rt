@@ -42,8 +42,8 @@ fn dust_of(e: DustEntry) -> Coefficients
     ensures { λ r. ⌜ r ≡ dustOf e ⌝ }
 {
     match e {
-        DustEntry::Both(a, b) => Coefficients::Dust(a, b),
-        DustEntry::Neither => Coefficients::NoEntry,
+        DustEntry::FoundBoth(a, b) => Coefficients::Dust(a, b),
+        DustEntry::AbsentBoth => Coefficients::NoEntry,
     }
 }
 
