@@ -1,6 +1,5 @@
 // Table A.1's row of an MW.
 ghost use mathlib.Core.Path.{_≡_};
-ghost use Prim.Native.Nat.{_≤_};
 ghost use Rattle.rules.specs.Tables.{class, tableA1, classOf};
 ghost use Rattle.tables.specs.Rows.{entryOf, pairOf, sizeClassOf};
 use rules::DustEntry;
@@ -45,9 +44,8 @@ fn class_row(
     }
 }
 
-// "Table A.1, in 0.01 kg/t": its upper rows.
-fn large_class(mw: u16) -> ClassRow
-    requires { ⌜ 150 ≤ mw ⌝ }
+// "Table A.1, in 0.01 kg/t": the row of an MW is the first whose lower bound is reached, or a row of dashes.
+pub fn size_class(mw: u16) -> ClassRow
     ensures { λ r. ⌜ sizeClassOf r ≡ classOf mw tableA1 ⌝ }
 {
     if mw >= 750 {
@@ -59,15 +57,8 @@ fn large_class(mw: u16) -> ClassRow
     if mw >= 250 {
         return class_row(250, 921, 1113, 631, 754, 801, 665, 582, 407);
     }
-    class_row(150, 933, 777, 624, 757, 768, 661, 561, 394)
-}
-
-// The row of an MW: the first whose lower bound is reached, or a row of dashes.
-pub fn size_class(mw: u16) -> ClassRow
-    ensures { λ r. ⌜ sizeClassOf r ≡ classOf mw tableA1 ⌝ }
-{
     if mw >= 150 {
-        return large_class(mw);
+        return class_row(150, 933, 777, 624, 757, 768, 661, 561, 394);
     }
     if mw >= 75 {
         return class_row(75, 931, 918, 631, 727, 749, 658, 548, 386);
