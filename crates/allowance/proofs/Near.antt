@@ -13,8 +13,6 @@ use Rattle.law.proofs.Halves.{Within, spread, halves-within}
 use Rattle.reading.specs.Reading.{reading}
 use Rattle.reading.proofs.Laws.{half-a-unit}
 use Rattle.rules.specs.declared.Pair.{Pair}
-use Rattle.rules.specs.declared.Coefficients.{Coefficients}
-use Rattle.rules.specs.declared.Coefficients.the-variants.{Balance, Oxides, Dust, NoEntry}
 use Rattle.rules.specs.Slots.{mapSlot}
 use Rattle.rules.specs.Hours.{running}
 use Rattle.rules.specs.Lines.{Line, hours, surveyed}
@@ -27,6 +25,7 @@ use Rattle.allowance.specs.Allowance.{ofFill, automaticAllowance, manual
 use Rattle.allowance.proofs.Alike.{slots-alike, slots-self}
 use Rattle.allowance.proofs.Account.{Halves, automatic-off, manual-off}
 use Rattle.allowance.proofs.Fills.{fills-off}
+use Rattle.rules.proofs.Grams.{bottom-some}
 use Rattle.rules.proofs.Method.{grams-automatic, grams-manual, grams-fuel, manual-surveyed}
 
 -- ---- the readings, in units of 2^-149
@@ -60,13 +59,6 @@ manual-near x m =
     (manual-off (2 ^ 149) surveyValues exactSurvey (λ s. halves-of (s .pair)) D (running (x .days)) (surveyed x) (mul-pos (manual-surveyed x m) (omega arith)))
 
 -- ---- methods 3 and 4
-bottom-some : (entry : Coefficients) → 0 < fuelBottom entry
-unfolding fuelBottom
-bottom-some (Balance q k) = omega arith
-bottom-some (Oxides c) = omega arith
-bottom-some (Dust a b) = omega arith
-bottom-some NoEntry = omega arith
-
 half-a-gram : (N D G : ℕ) → 0 < D → G ≡ halvesUp N D → 2 * apart (D * G) N ≤ D
 unfolding apart
 half-a-gram N D G p g = let h = halves-within N D p in rw g (omega (arith, h .0, h .1))

@@ -9,7 +9,7 @@ use Rattle.law.specs.Words.{sumOf, largest}
 use Rattle.law.proofs.Halves.{spread}
 use Rattle.rules.specs.declared.Batch.{Batch}
 use Rattle.rules.specs.declared.Coefficients.{Coefficients}
-use Rattle.rules.specs.declared.Coefficients.the-variants.{Balance, Oxides, Dust, NoEntry as Wanting}
+use Rattle.rules.specs.declared.Coefficients.the-variants.{Balance, Oxides, Dust, NoEntry}
 use Rattle.rules.specs.Lines.{fuel}
 use Rattle.rules.specs.Grams.{sulphurOf, fuelTop}
 use Rattle.fuel.specs.Fuel.{ashOf, topOf, InRange}
@@ -39,4 +39,4 @@ unfolding topOf fuelTop
 top-is (Balance q k) batches = refl
 top-is (Oxides coefficient) batches = refl
 top-is (Dust a b) batches = dust-top a b batches
-top-is Wanting batches = refl
+top-is NoEntry batches = refl

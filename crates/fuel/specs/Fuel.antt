@@ -1,17 +1,17 @@
 -- Balance, oxides and dust from what the code keeps of a line's batches: their kg, the largest sulphur, and the sum of kg x ash.
 use Prim.Native.Nat.{ℕ, _+_, _-_, _*_, _≤_}
-use mathlib.Core.List.{List}
+use mathlib.Core.List.{List, [], _∷_}
 use lib.Dec.{leb}
-use Rattle.law.specs.Words.{need, sumOf, halvesUp}
+use Rattle.law.specs.Words.{needAll, sumOf, halvesUp}
 use Rattle.rules.specs.declared.Head.{Head}
 use Rattle.rules.specs.declared.Batch.{Batch}
 use Rattle.rules.specs.declared.Coefficients.{Coefficients}
-use Rattle.rules.specs.declared.Coefficients.the-variants.{Balance, Oxides, Dust, NoEntry as Wanting}
+use Rattle.rules.specs.declared.Coefficients.the-variants.{Balance, Oxides, Dust, NoEntry}
 use Rattle.rules.specs.Tables.{coefficientsOf}
 use Rattle.rules.specs.Lines.{fuel}
 use Rattle.rules.specs.Grams.{sulphurOf, fuelBottom}
 use Rattle.fuel.specs.declared.FuelFigure.{FuelFigure}
-use Rattle.fuel.specs.declared.FuelFigure.the-variants.{Grams, NoEntry, OutOfRange}
+use Rattle.fuel.specs.declared.FuelFigure.the-variants.{Grams, WithoutEntry, OutOfRange}
 
 -- the sum of kg x ash over batches
 unfoldable pub ashOf : List Batch → ℕ
@@ -28,25 +28,31 @@ unfoldable pub topOf : Coefficients → ℕ → ℕ → ℕ → ℕ
 topOf (Balance q k) kg sulphur ash = 2 * kg * (1000 - q) * sulphur * k
 topOf (Oxides coefficient) kg sulphur ash = kg * coefficient
 topOf (Dust a b) kg sulphur ash = a * ash + 100 * b * kg
-topOf Wanting kg sulphur ash = 0
+topOf NoEntry kg sulphur ash = 0
+
+-- the grams of an entry: one rounding
+abbrev pub foundOf : Coefficients → ℕ → ℕ → ℕ → FuelFigure
+foundOf entry kg sulphur ash = Grams (halvesUp (topOf entry kg sulphur ash) (fuelBottom entry))
 
 -- an entry, or none
 unfoldable pub figureOf : Coefficients → ℕ → ℕ → ℕ → FuelFigure
-figureOf (Balance q k) kg sulphur ash = Grams (halvesUp (topOf (Balance q k) kg sulphur ash) (fuelBottom (Balance q k)))
-figureOf (Oxides coefficient) kg sulphur ash = Grams (halvesUp (topOf (Oxides coefficient) kg sulphur ash) (fuelBottom (Oxides coefficient)))
-figureOf (Dust a b) kg sulphur ash = Grams (halvesUp (topOf (Dust a b) kg sulphur ash) (fuelBottom (Dust a b)))
-figureOf Wanting kg sulphur ash = NoEntry
+figureOf (Balance q k) kg sulphur ash = foundOf (Balance q k) kg sulphur ash
+figureOf (Oxides coefficient) kg sulphur ash = foundOf (Oxides coefficient) kg sulphur ash
+figureOf (Dust a b) kg sulphur ash = foundOf (Dust a b) kg sulphur ash
+figureOf NoEntry kg sulphur ash = WithoutEntry
 
--- "a line's fuel at most 10,000,000,000 kg", "sulphur at most 2,000, ash at most 10,000"
+-- the document's range: "a line's fuel at most 10,000,000,000 kg", "sulphur at most 2,000, ash at most 10,000"
+abbrev pub Ranged : ℕ → ℕ → ℕ → Type 0
+Ranged kg sulphur ash = (kg ≤ 10_000_000_000) × (sulphur ≤ 2_000) × (ash ≤ 100_000_000_000_000)
+
+-- within it the figure, else none
 unfoldable pub fuelFigure : Head → ℕ → ℕ → ℕ → FuelFigure
 fuelFigure h kg sulphur ash =
-    need OutOfRange (leb kg 10_000_000_000)
-    (need OutOfRange (leb sulphur 2_000)
-    (need OutOfRange (leb ash 100_000_000_000_000)
-    (figureOf (coefficientsOf h) kg sulphur ash)))
+    needAll OutOfRange (leb kg 10_000_000_000 ∷ leb sulphur 2_000 ∷ leb ash 100_000_000_000_000 ∷ [])
+    (figureOf (coefficientsOf h) kg sulphur ash)
 
 -- the paper's number for each case: 7 "no table entry", 3 "field .. or fuel sum out of range"
 unfoldable pub numberOf : FuelFigure → ℕ
 numberOf (Grams g) = 0
-numberOf NoEntry = 7
+numberOf WithoutEntry = 7
 numberOf OutOfRange = 3

@@ -3,14 +3,14 @@ ghost use mathlib.Core.Path.{_≡_};
 ghost use Prim.Native.Nat.{_<_, _≤_};
 ghost use Rattle.law.specs.Words.{halvesUp};
 ghost use Rattle.rules.specs.Tables.{coefficientsOf};
-ghost use Rattle.fuel.specs.Fuel.{figureOf, fuelFigure};
+ghost use Rattle.fuel.specs.Fuel.{figureOf, Ranged, fuelFigure};
 use rules::Coefficients;
 use rules::Head;
 
 // The grams by fuel; that a table entry is wanting; or that an amount is out of the document's range.
 pub enum FuelFigure {
     Grams(u64),
-    NoEntry,
+    WithoutEntry,
     OutOfRange,
 }
 
@@ -24,7 +24,7 @@ fn halves_up(n: u64, d: u64) -> u64
 
 // The figure of amounts within the document's range, by the entry that the tables have: one rounding.
 fn figure(h: Head, kg: u64, sulphur: u16, ash: u64) -> FuelFigure
-    requires { ⌜ (kg ≤ 10_000_000_000) × (sulphur ≤ 2_000) × (ash ≤ 100_000_000_000_000) ⌝ }
+    requires { ⌜ Ranged kg sulphur ash ⌝ }
     ensures { λ r. ⌜ r ≡ figureOf (coefficientsOf h) kg sulphur ash ⌝ }
 {
     match tables::coefficients(h) {
@@ -40,7 +40,7 @@ fn figure(h: Head, kg: u64, sulphur: u16, ash: u64) -> FuelFigure
             let top = (a as u64) * ash + 100 * (b as u64) * kg;
             FuelFigure::Grams(halves_up(top, 10_000))
         }
-        Coefficients::NoEntry => FuelFigure::NoEntry,
+        Coefficients::NoEntry => FuelFigure::WithoutEntry,
     }
 }
 

@@ -1,6 +1,14 @@
 // What the tables q, K and A.1 have for a line.
+mod entries; // entries.rt
+mod classes; // classes.rt
+mod table_a1; // table_a1.rt
+
 ghost use mathlib.Core.Path.{_≡_};
 ghost use Rattle.rules.specs.Tables.{balanceOf, oxidesOf, dustOf, coefficientsOf};
+use crate::entries::k_entry;
+use crate::entries::q_entry;
+use crate::table_a1::dust_entry;
+use crate::table_a1::oxides_entry;
 use rules::Coefficients;
 use rules::DustEntry;
 use rules::Entry;
@@ -34,8 +42,8 @@ fn dust_of(e: DustEntry) -> Coefficients
     ensures { λ r. ⌜ r ≡ dustOf e ⌝ }
 {
     match e {
-        DustEntry::Both(a, b) => Coefficients::Dust(a, b),
-        DustEntry::Neither => Coefficients::NoEntry,
+        DustEntry::FoundBoth(a, b) => Coefficients::Dust(a, b),
+        DustEntry::AbsentBoth => Coefficients::NoEntry,
     }
 }
 
@@ -44,13 +52,10 @@ pub fn coefficients(h: Head) -> Coefficients
     ensures { λ r. ⌜ r ≡ coefficientsOf h ⌝ }
 {
     if h.pollutant == 1 {
-        return balance_of(
-            entries::q_entry(h.furnace, h.coal),
-            entries::k_entry(h.furnace),
-        );
+        return balance_of(q_entry(h.furnace, h.coal), k_entry(h.furnace));
     }
     if h.pollutant == 2 {
-        return oxides_of(table_a1::oxides_entry(h.furnace, h.mark, h.mw));
+        return oxides_of(oxides_entry(h.furnace, h.mark, h.mw));
     }
-    dust_of(table_a1::dust_entry(h.furnace, h.coal, h.mw))
+    dust_of(dust_entry(h.furnace, h.coal, h.mw))
 }

@@ -12,13 +12,13 @@ use Rattle.fills.specs.Weights.{products}
 use Rattle.rules.specs.declared.View.{View}
 use Rattle.fuel.specs.Fuel.{fuelFigure}
 use Rattle.fuel.specs.declared.FuelFigure.{FuelFigure}
-use Rattle.fuel.specs.declared.FuelFigure.the-variants.{Grams, NoEntry, OutOfRange}
+use Rattle.fuel.specs.declared.FuelFigure.the-variants.{Grams, WithoutEntry, OutOfRange}
 use Rattle.walk.specs.declared.books.Sums.{Sums}
 
 -- grams by fuel, and 0 for none
 abbrev pub gramsIn : FuelFigure → ℕ
 gramsIn (Grams g) = g
-gramsIn NoEntry = 0
+gramsIn WithoutEntry = 0
 gramsIn OutOfRange = 0
 
 -- the weight of the period's cells

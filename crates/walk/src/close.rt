@@ -14,7 +14,7 @@ fn grams_in(f: FuelFigure) -> u64
 {
     match f {
         FuelFigure::Grams(g) => g,
-        FuelFigure::NoEntry => 0,
+        FuelFigure::WithoutEntry => 0,
         FuelFigure::OutOfRange => 0,
     }
 }

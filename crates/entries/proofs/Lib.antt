@@ -1,3 +1,0 @@
--- What the proofs of the code lean on.
-pub mod Rows
-pub mod Only

@@ -1,2 +1,0 @@
--- What the calls leave to be shown.
-pub mod Only
