@@ -14,7 +14,7 @@ use lib.Ieee.Exact.{HasValue}
 use lib.Ieee.Back.{round-whole, whole-unique, unsigned-back, float-back-unsigned}
 use lib.Ieee.Scale.{round-same}
 use lib.Ieee.Bits.{ofBits-toBits}
-use Rattle.lawful.specs.Lawful.{whole, lawfulTotal, asTotal}
+use Rattle.panel.specs.Lawful.{whole, lawfulTotal, asTotal}
 
 -- ---- the rules' test and number are those of a cast to u64
 within : (a b c : Bool) → (T b → T c) → a && b ≡ (a && b && true) && c

@@ -1,9 +1,10 @@
--- 12: which totals and counts make a lawful state, and which whole number a total stands for.
+-- 12: which states of a panel are lawful, and which whole number a total stands for.
 use Prim.Native.Nat.{ℕ, _*_, _/_, _%_, _^_}
 use mathlib.Core.Bool.{Bool, false, not, _&&_}
 use lib.Dec.{leb, eqb}
 use lib.IntN.{pos}
 use lib.Ieee.{Float, nan, inf, fin, up, down, binary64, ofInt}
+use Rattle.panel.specs.declared.Panel.{Panel}
 
 -- the whole number that a total stands for
 unfoldable pub whole : Float → ℕ
@@ -18,8 +19,8 @@ lawfulTotal (inf negative) = false
 lawfulTotal (fin negative m e) = not negative && eqb (m * up e % down e) 0 && leb (m * up e / down e) (2 ^ 53)
 
 -- 12: "total not a whole number from +0 to 2^53, hours over 2,208, missing over hours"
-unfoldable pub lawfulState : Float → ℕ → ℕ → Bool
-lawfulState total hours missing = lawfulTotal total && leb hours 2_208 && leb missing hours
+unfoldable pub lawful : Panel → Bool
+lawful p = lawfulTotal (p .total) && leb (p .hours) 2_208 && leb (p .missing) (p .hours)
 
 -- "up to 2^53 the f64 total equals the whole number exactly": the f64 of a whole number
 unfoldable pub asTotal : ℕ → Float

@@ -1,14 +1,14 @@
--- `lawful::whole_total` meets its contract: the bits of the number's cast are those of t exactly where t is lawful, and a lawful t passes the tests.
+-- `panel::lawful::whole_total` meets its contract: the bits of the number's cast are those of t exactly where t is lawful, and a lawful t passes the tests.
 -- Assumes nothing.
 use mathlib.Core.Path.{sym, _∙_, subst}
 use Prim.Native.Nat.{ℕ, _≤_, _^_}
 use native.Mathlib.Nat.{not-le-of-lt}
 use lib.Dec.{T}
 use lib.Ieee.{ofBits, neg, binary64, fits}
-use Rattle.lawful.specs.Lawful.{asTotal}
-use Rattle.lawful.proofs.Whole.{whole-cast, cast-ok, cast-no-nan, above-no-nan, same-bits, lawful-above, lawful-below, whole-le, fails}
-use Rattle.lawful.proofs.whole_total.Statement.{statement}
-use Rattle.lawful.proofs.whole_total.Tie as tie
+use Rattle.panel.specs.Lawful.{asTotal}
+use Rattle.panel.proofs.Whole.{whole-cast, cast-ok, cast-no-nan, above-no-nan, same-bits, lawful-above, lawful-below, whole-le, fails}
+use Rattle.panel.proofs.lawful.whole_total.Statement.{statement}
+use Rattle.panel.proofs.lawful.whole_total.Tie as tie
 
 -- t fits its format
 fit : (c : tie.Start) → T (fits binary64 (c .args .t))

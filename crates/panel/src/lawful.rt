@@ -1,9 +1,10 @@
 // What makes a panel's state lawful: a whole total in an f64, and its two counts.
 ghost use mathlib.Core.Path.{_≡_};
-ghost use Rattle.lawful.specs.Lawful.{lawfulTotal, lawfulState};
+ghost use Rattle.panel.specs.Lawful.{lawfulTotal, lawful};
+use crate::Panel;
 
 // "A whole number from +0 to 2^53." Bits are compared: as floats minus zero equals zero.
-pub fn whole_total(t: f64) -> bool
+fn whole_total(t: f64) -> bool
     ensures { λ r. ⌜ r ≡ lawfulTotal t ⌝ }
 {
     if t > -1.0 {
@@ -19,12 +20,12 @@ pub fn whole_total(t: f64) -> bool
 }
 
 // 12: "total not a whole number from +0 to 2^53, hours over 2,208, missing over hours".
-pub fn lawful_state(total: f64, hours: u32, missing: u32) -> bool
-    ensures { λ r. ⌜ r ≡ lawfulState total hours missing ⌝ }
+pub fn lawful_state(p: Panel) -> bool
+    ensures { λ r. ⌜ r ≡ lawful p ⌝ }
 {
-    if whole_total(total) {
-        if hours <= 2208 {
-            return missing <= hours;
+    if whole_total(p.total) {
+        if p.hours <= 2208 {
+            return p.missing <= p.hours;
         }
     }
     false
