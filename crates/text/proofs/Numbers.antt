@@ -11,9 +11,9 @@ use borrow.Author.Tests.{lt-ltb, le-ltb, leb-true, leb-false}
 use Rattle.law.specs.Words.{pick}
 use Rattle.law.proofs.Tests.{pick-case}
 use Rattle.io.specs.Digits.{digits, glyph, Fewest}
-use Rattle.writing.specs.Numbers.{decimalFrom, decimal}
-use Rattle.writing.specs.Written.{Wrote, Put}
-use Rattle.writing.proofs.Wrote.{wrote-on, wrote-as}
+use Rattle.text.specs.Numbers.{decimalFrom, decimal}
+use Rattle.text.specs.Written.{Wrote}
+use Rattle.text.proofs.Wrote.{wrote-on, wrote-as}
 
 digit : (n : ℕ) → glyph (n % 10) ≡ 48 + n % 10
 digit n = ap (λ (t : Bool). cond t (48 + n % 10) (87 + n % 10)) (lt-ltb (n % 10) 10 (omega arith))
@@ -57,13 +57,16 @@ most-20 n k l f = by (leb k 20) refl
         let high : 10 ^ 20 * 10 ^ (k - 21) ≤ n = subst (λ (v : ℕ). v ≤ n) (ap (λ (i : ℕ). 10 ^ i) j ∙ pow-add 10 20 (k - 21)) (f .2 (omega (arith, leb-false k 20 e))) in
         absurd (omega (arith, high, ones-some (k - 21), l))
 
--- so there is room for its digits where there are 21 bytes
-pub digits-wrote : (old text out : List ℕ) (at end n k : ℕ) → n < 2 ^ 64 → Fewest 10 1 n k → k ≤ length out → at + 21 ≤ length old
-    → Put (length (take (k - 0) out)) old at (take (k - 0) out) text end → (Wrote old at (take (k - 0) out) text end) × (end ≤ at + 20)
-digits-wrote old text out at end n k u f b l p =
-    let few : length (take (k - 0) out) ≤ 20 = omega (arith, length-take (k - 0) out, b, most-20 n k u f) in
-    let w = p .fits (omega (arith, few, l)) in
-    (w, omega (arith, few, w .ends))
+-- so there is room for its digits, and for a byte behind them, where there are 21 bytes
+module _ (out : List ℕ) (at n k room : ℕ) (u : n < 2 ^ 64) (f : Fewest 10 1 n k) (l : at + 21 ≤ room) where
+  few : length (take (k - 0) out) ≤ 20
+  few = omega (arith, length-take (k - 0) out, most-20 n k u f)
+
+  pub digits-room : at + length (take (k - 0) out) ≤ room
+  digits-room = omega (arith, few)
+
+  pub byte-room : (old text : List ℕ) (end : ℕ) → Wrote old at (take (k - 0) out) text end → end < room
+  byte-room old text end w = omega (arith, few, w .ends)
 
 -- the first k digits written, and the byte behind them
 pub number-wrote : (old text new out : List ℕ) (at end r n k after : ℕ) → n < 2 ^ 64 → Fewest 10 1 n k → take k out ≡ digits 10 k n

@@ -6,7 +6,7 @@ use native.Mathlib.Nat.{add-zero}
 use native.Mathlib.Omega.{arith}
 use lib.ListN.{length, take, drop, set, getD, length-append, length-set}
 use lib.Seq.{take-suc, take-suc-set, drop-set-lt, drop-drop, take-length}
-use Rattle.writing.specs.Written.{Wrote, Put}
+use Rattle.text.specs.Written.{Wrote}
 
 pub wrote-none : (old : List ℕ) (at : ℕ) → Wrote old at [] old at
 wrote-none old at = record { ends = omega arith; says = sym (append-nil (take at old)); keeps = refl }
@@ -36,13 +36,6 @@ wrote-on a b c xs ys i j k p q =
 
 pub wrote-as : (a b xs ys : List ℕ) (i j : ℕ) → xs ≡ ys → Wrote a i xs b j → Wrote a i ys b j
 wrote-as a b xs ys i j e p = subst (λ (t : List ℕ). Wrote a i t b j) e p
-
--- ---- room for the bytes, or none
-pub put-fits : (room : ℕ) (old bytes new : List ℕ) (from to : ℕ) → from + room ≤ length old → Wrote old from bytes new to → Put room old from bytes new to
-put-fits room old bytes new from to l w = record { fits = λ m. w; none = λ m. absurd (omega (arith, l, m)) }
-
-pub put-none : (room : ℕ) (old bytes : List ℕ) (from : ℕ) → length old < from + room → Put room old from bytes old from
-put-none room old bytes from l = record { fits = λ m. absurd (omega (arith, l, m)); none = λ m. (refl, refl) }
 
 -- ---- a loop that writes the bytes of a list: the first i are written
 pub record Copying (old : List ℕ) (at : ℕ) (bytes text : List ℕ) (i : ℕ) : Type 0 where

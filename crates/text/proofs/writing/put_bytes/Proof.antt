@@ -1,27 +1,18 @@
--- `writing::put_bytes` meets its contract: where there is room, after i turns the first i bytes stand behind what stood before. Assumes nothing.
+-- `text::writing::put_bytes` meets its contract: after i turns the first i bytes stand behind what stood before. Assumes nothing.
 use mathlib.Core.Path.{refl}
 use Prim.Native.Nat.{_-_}
 use native.Mathlib.Omega.{arith}
 use lib.ListN.{length}
 use borrow.Author.Needs.{needs}
-use Rattle.writing.proofs.Wrote.{put-fits, put-none, Copying, copying-start, copying-on, copying-done}
-use Rattle.writing.proofs.put_bytes.Statement.{statement}
-use Rattle.writing.proofs.put_bytes.Tie as tie
+use Rattle.text.proofs.Wrote.{Copying, copying-start, copying-on, copying-done}
+use Rattle.text.proofs.writing.put_bytes.Statement.{statement}
+use Rattle.text.proofs.writing.put_bytes.Tie as tie
 
 abbrev Inv-loop : tie.InvT-loop
 Inv-loop text₀ at bytes i₀ text i = Copying text₀ at bytes text i
 
 abbrev μ-loop : tie.MeasureT-loop
 μ-loop text₀ at bytes i₀ text i = length bytes - i
-
-returns : tie.Need-returns Inv-loop μ-loop
-returns c = put-none _ _ _ _ (omega (arith, c .if1 .taken))
-
-sub-if2 : tie.Need-sub-if2 Inv-loop μ-loop
-sub-if2 c = search needs
-
-returns-2 : tie.Need-returns-2 Inv-loop μ-loop
-returns-2 c = put-none _ _ _ _ (omega (arith, c .before .if1 .left, c .if2 .taken))
 
 loop-holds : tie.Need-loop-holds Inv-loop μ-loop
 loop-holds c = copying-start _ _ _
@@ -42,7 +33,7 @@ loop-less : tie.Need-loop-less Inv-loop μ-loop
 loop-less c = omega arith
 
 loop-again : tie.Need-loop-again Inv-loop μ-loop
-loop-again c = let a = c .before .before in copying-on _ _ _ _ _ _ (a .loop .inv) (c .before .loop-test .taken) (omega (arith, a .before .before .if1 .left, a .before .if2 .left)) refl
+loop-again c = let a = c .before .before in copying-on _ _ _ _ _ _ (a .loop .inv) (c .before .loop-test .taken) (a .before .pre) refl
 
 add-result : tie.Need-add-result Inv-loop μ-loop
 add-result c = search needs
@@ -50,10 +41,8 @@ add-result c = search needs
 same-length : tie.Need-same-length Inv-loop μ-loop
 same-length c = c .before .loop .inv .long
 
-returns-3 : tie.Need-returns-3 Inv-loop μ-loop
-returns-3 c =
-    let e = c .before .before in
-    put-fits _ _ _ _ _ _ (omega (arith, e .before .if1 .left, e .if2 .left)) (copying-done _ _ _ _ _ (c .before .loop .inv) (c .loop-test .left))
+returns : tie.Need-returns Inv-loop μ-loop
+returns c = copying-done _ _ _ _ _ (c .before .loop .inv) (c .loop-test .left)
 
 pub put-bytes-spec : {M : Type 1} → statement M
 put-bytes-spec =
@@ -61,9 +50,6 @@ put-bytes-spec =
     (tie.spec
     Inv-loop
     μ-loop
-    returns
-    sub-if2
-    returns-2
     loop-holds
     shared-slice-read-text
     add-text
@@ -73,4 +59,4 @@ put-bytes-spec =
     loop-again
     add-result
     same-length
-    returns-3)
+    returns)

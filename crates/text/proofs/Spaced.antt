@@ -5,10 +5,10 @@ use Prim.Native.Nat.{ℕ, suc, _+_, _-_, _*_, _<_, _≤_}
 use native.Mathlib.Omega.{arith}
 use lib.ListN.{length, drop, getD, length-append, drop-of-length-le}
 use lib.Seq.{drop-cons}
-use Rattle.writing.specs.Numbers.{decimal, spaced}
-use Rattle.writing.specs.Written.{Wrote}
-use Rattle.writing.proofs.Wrote.{wrote-none, wrote-on, wrote-as}
-use Rattle.writing.proofs.Numbers.{decimal-most}
+use Rattle.text.specs.Numbers.{decimal, spaced}
+use Rattle.text.specs.Written.{Wrote}
+use Rattle.text.proofs.Wrote.{wrote-none, wrote-on, wrote-as}
+use Rattle.text.proofs.Numbers.{decimal-most}
 
 -- one number more, and the last
 spaced-more : (cells : List ℕ) (i : ℕ) → suc i < length cells → spaced (drop i cells) ≡ (decimal (getD cells i 0) ++ (32 ∷ [])) ++ spaced (drop (suc i) cells)
@@ -61,12 +61,6 @@ spacing-done old text new cells at end r i last p l e w =
     let is : p .front ++ here ≡ spaced cells =
     ap (λ (t : List ℕ). p .front ++ t) (sym (spaced-last cells last (omega (arith, p .most, e))) ∙ ap (λ (k : ℕ). spaced (drop k cells)) (sym same)) ∙ sym (p .whole) in
     wrote-as old new (p .front ++ here) (spaced cells) at r is (wrote-on old text new (p .front) here at end r (p .wrote) w)
-
--- no numbers: only the line feed
-pub spaced-none : (cells : List ℕ) → length cells ≡ 0 → (10 ∷ []) ≡ spaced cells
-unfolding spaced
-spaced-none [] e = refl
-spaced-none (n ∷ ns) e = absurd (omega arith)
 
 -- 21 bytes for each number and one more are enough
 pub spaced-most : (cells : List ℕ) → length (spaced cells) ≤ 21 * length cells + 1
