@@ -45,14 +45,15 @@ def names(crates):
     return uses, opened
 
 
-def definition(crate, part, deps, lines):
-    """One file of a crate's definitions alone, without the calls that write what it defines."""
+def definition(crate, parts, deps, lines):
+    """Some files of a crate's definitions alone, without the calls that write what they define."""
     here = os.path.join(WORK, 'crates', crate)
     os.makedirs(os.path.join(here, 'src'))
     os.makedirs(os.path.join(here, 'specs'))
     open(os.path.join(here, 'src', 'lib.rt'), 'w').write('// The definition alone.\n')
-    open(os.path.join(here, 'specs', 'Lib.antt'), 'w').write('pub mod %s\n' % part)
-    shutil.copy(os.path.join(ROOT, 'crates', crate, 'specs', part + '.antt'), os.path.join(here, 'specs'))
+    open(os.path.join(here, 'specs', 'Lib.antt'), 'w').write(''.join('pub mod %s\n' % part for part in parts))
+    for part in parts:
+        shutil.copy(os.path.join(ROOT, 'crates', crate, 'specs', part + '.antt'), os.path.join(here, 'specs'))
     lines.append('%s: %s' % (crate, deps))
     return crate
 
@@ -91,9 +92,8 @@ def main(args):
     for c in base:
         os.symlink(os.path.join(ROOT, 'crates', c), os.path.join(WORK, 'crates', c))
         lines.append('%s: %s' % (c, ' '.join(deps[c])))
-    base.append(definition('writing', 'Numbers', 'law', lines))
-    base.append(definition('text', 'Line', 'law rules writing', lines))
-    base.append(definition('printed', 'Program', 'law rules writing text', lines))
+    base.append(definition('text', ['Numbers', 'Line'], 'law rules', lines))
+    base.append(definition('printed', ['Program'], 'law rules text', lines))
     uses, opened = names(base)
     for k in range(0, len(files), BATCH):
         c = 'computed%d' % (k // BATCH)

@@ -11,7 +11,7 @@ use Rattle.reading.specs.{declared.Hour.Hour, Reading.reading, Reading.allowed,
 use Rattle.rules.specs.{declared.Head.Head, declared.Answer.Answer, Lines.Line, Grams.grams, Row.rowOf, Walk.Accepted, Walk.outcome, Account.Promise}
 use Rattle.answers.specs.Heads.{headsOf}
 use Rattle.allowance.specs.Allowance.{Near}
-use Rattle.lawful.specs.Lawful.{asTotal}
+use Rattle.panel.specs.Lawful.{asTotal}
 use Rattle.panel.specs.{Panel.emptyPanel, Runs.after, Runs.products, Runs.missingHours, Runs.NoneRefused, Runs.NoneBad}
 use Rattle.survey.specs.Governing.{isSurvey, part, here, governing}
 

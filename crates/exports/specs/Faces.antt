@@ -1,11 +1,24 @@
--- The account as C and Rust call it: what it answers and leaves in the cells lent to it.
+-- The faces that C and Rust call: what each answers and leaves in the cells lent to it.
 use Prim.Native.Nat.{ℕ}
-use mathlib.Core.List.{List}
+use mathlib.Core.List.{List, _∷_}
 use mathlib.Core.Path.{_≡_}
-use lib.ListN.{length}
+use lib.ListN.{length, getD}
+use lib.Dec.{leb, eqb}
+use lib.Ieee.{Float}
+use Rattle.law.specs.Numbers.{totalCells}
+use Rattle.law.specs.Words.{need, pick, table}
+use Rattle.reading.specs.declared.Hour.{Hour}
+use Rattle.reading.specs.declared.Hour.the-variants.{Measured, Missing, Stopped}
+use Rattle.rules.specs.declared.Answer.{Answer}
 use Rattle.rules.specs.Row.{concentrationCells, flowCells}
 use Rattle.rules.specs.Account.{answerOf, rowsAfter, workAfter}
-use Rattle.faces.specs.Faces.{answerCells}
+use Rattle.panel.specs.declared.Panel.{Panel}
+use Rattle.panel.specs.declared.Stepped.{Stepped}
+use Rattle.panel.specs.Panel.{unchanged, panelStep}
+
+-- the six cells of an answer: "number and place (both 0 on acceptance), row count and three totals"
+unfoldable pub answerCells : Answer → List ℕ
+answerCells a = a .number ∷ a .place ∷ a .rows ∷ table (λ i. getD (a .totals) i 0) totalCells
 
 -- the promise of `quarter_account`: the number that it returns, the answer's cells, and what it leaves in the rows and in the two work slices
 pub record AccountFace (file rows concentrations flows : List ℕ) (r : ℕ) (answer' rows' concentrations' flows' : List ℕ) : Type 0 where
@@ -14,3 +27,27 @@ pub record AccountFace (file rows concentrations flows : List ℕ) (r : ℕ) (an
   pub leaves : rows' ≡ rowsAfter file rows (length concentrations) (length flows)
   pub concentrationsHold : concentrations' ≡ workAfter concentrationCells file (length rows) (length concentrations) (length flows) concentrations
   pub flowsHold : flows' ≡ workAfter flowCells file (length rows) (length concentrations) (length flows) flows
+
+-- "an hour of a stack is one of three things", by its kind: 0 stopped, 1 missing, 2 measured
+unfoldable pub hourOfKind : ℕ → Float → Float → Hour
+hourOfKind kind concentration flow = pick (eqb kind 0) Stopped (pick (eqb kind 1) Missing (Measured concentration flow))
+
+-- a panel by its three cells
+abbrev pub panelOf : Float → ℕ → ℕ → Panel
+panelOf total hours missing = record { total = total; hours = hours; missing = missing }
+
+-- 3: a kind that is none of the three, before the state is looked at
+unfoldable pub faceStep : Panel → ℕ → Float → Float → Stepped
+faceStep p kind concentration flow = need (unchanged 3 p) (leb kind 2) (panelStep p (hourOfKind kind concentration flow))
+
+-- the promise of `panel_hour`: the number that it returns, and the state that it leaves in the three cells
+pub record PanelFace (p : Panel) (kind : ℕ) (concentration flow : Float) (r : ℕ) (total' : Float) (hours' missing' : ℕ) : Type 0 where
+  pub returns : r ≡ faceStep p kind concentration flow .number
+  pub totalAfter : total' ≡ faceStep p kind concentration flow .next .total
+  pub hoursAfter : hours' ≡ faceStep p kind concentration flow .next .hours
+  pub missingAfter : missing' ≡ faceStep p kind concentration flow .next .missing
+
+-- the promise of `governing_survey_part`, by the bytes of the governing part: their number, and them or, where it is empty, the cells as they were
+pub record PartFace (bytes part : List ℕ) (r : ℕ) (part' : List ℕ) : Type 0 where
+  pub returns : r ≡ length bytes
+  pub leaves : part' ≡ pick (eqb (length bytes) 14) bytes part

@@ -1,2 +1,2 @@
--- The account as C and Rust call it.
+-- The faces that C and Rust call.
 pub mod Faces

@@ -1,7 +1,9 @@
 // The faces for C and Rust: the account, a panel's hour, the governing survey.
 ghost use Rattle.survey.specs.Governing.{governing};
-ghost use Rattle.faces.specs.Faces.{panelOf, PanelFace, PartFace};
-ghost use Rattle.exports.specs.Faces.{AccountFace};
+ghost use Rattle.exports.specs.Faces.{panelOf, AccountFace, PanelFace, PartFace};
+use panel::Panel;
+
+mod faces;
 
 #[no_mangle]
 pub extern "C" fn quarter_account(
@@ -11,13 +13,15 @@ pub extern "C" fn quarter_account(
     flow: &mut [u32],
     answer: &mut [u64; 6],
 ) -> u32
-    ensures { λ r. ⌜ AccountFace (now (file .entry)) (now (rows .entry)) (now (concentration .entry)) (now (flow .entry)) r (now (answer .exit)) (now (rows .exit)) (now (concentration .exit)) (now (flow .exit)) ⌝ }
+    ensures { λ r. ⌜ AccountFace (now (file .entry)) (now (rows .entry)) (now (concentration .entry)) (now (flow .entry))
+        r (now (answer .exit)) (now (rows .exit)) (now (concentration .exit)) (now (flow .exit)) ⌝ }
 {
     let a = quarter::account(file, rows, concentration, flow);
     *answer = faces::answer_cells(a);
     a.number
 }
 
+// An unknown kind is refused before the state is looked at.
 #[no_mangle]
 pub extern "C" fn panel_hour(
     total: &mut f64,
@@ -27,11 +31,26 @@ pub extern "C" fn panel_hour(
     concentration: f32,
     flow: f32,
 ) -> u32
-    ensures { λ r. ⌜ PanelFace (panelOf (now (total .entry)) (now (hours .entry)) (now (missing .entry))) kind concentration flow r (now (total .exit)) (now (hours .exit)) (now (missing .exit)) ⌝ }
+    ensures { λ r. ⌜ PanelFace (panelOf (now (total .entry)) (now (hours .entry)) (now (missing .entry))) kind concentration flow
+        r (now (total .exit)) (now (hours .exit)) (now (missing .exit)) ⌝ }
 {
-    faces::panel_hour(total, hours, missing, kind, concentration, flow)
+    if kind > 2 {
+        return 3;
+    }
+    let p = Panel {
+        total: *total,
+        hours: *hours,
+        missing: *missing,
+    };
+    let s = p.hour(faces::hour_of_kind(kind, concentration, flow));
+    let next = s.next;
+    *total = next.total;
+    *hours = next.hours;
+    *missing = next.missing;
+    s.number
 }
 
+// An exported call hands no reference back, so the block is copied out.
 #[no_mangle]
 pub extern "C" fn governing_survey_part<'a>(
     enforcement: &'a [u8],
@@ -41,5 +60,10 @@ pub extern "C" fn governing_survey_part<'a>(
 ) -> u32
     ensures { λ r. ⌜ PartFace (governing (enforcement .entry) (plant .entry) hour .bytes) (now (part .entry)) r (now (part .exit)) ⌝ }
 {
-    faces::survey_part(enforcement, plant, hour, part)
+    let block = survey::governing_survey(enforcement, plant, hour);
+    if block.len() == 14 {
+        faces::copy_part(block, part);
+        return 14;
+    }
+    0
 }

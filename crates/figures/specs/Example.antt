@@ -6,7 +6,7 @@ use lib.ListN.{replicate}
 use Rattle.rules.specs.Row.{concentrationCells, flowCells}
 use Rattle.rules.specs.Account.{rowsAfter, workAfter}
 use Rattle.rules.specs.Opened.{rules}
-use Rattle.writing.specs.Numbers.{decimalFrom, decimal, spaced}
+use Rattle.text.specs.Numbers.{decimalFrom, decimal, spaced}
 use Rattle.text.specs.Line.{refusedLine, totalsLine}
 use Rattle.printed.specs.Program.{rowLines, totalLine, printedFrom, printed}
 

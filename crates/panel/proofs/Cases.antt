@@ -13,11 +13,11 @@ use Rattle.reading.specs.declared.Hour.{Hour}
 use Rattle.reading.specs.declared.Figures.{Figures}
 use Rattle.reading.specs.declared.Figures.the-variants.{Both, NoData, NotRunning, Unfit}
 use Rattle.reading.specs.Reading.{stated, statedHour, figuresOf}
-use Rattle.lawful.specs.Lawful.{whole, lawfulTotal, asTotal}
-use Rattle.lawful.proofs.Whole.{value, value-only, total-fits, total-lawful, whole-le, lawful-value}
+use Rattle.panel.specs.Lawful.{whole, lawfulTotal, lawful, asTotal}
+use Rattle.panel.proofs.Whole.{value, value-only, total-fits, total-lawful, whole-le, lawful-value}
 use Rattle.panel.specs.declared.Panel.{Panel}
 use Rattle.panel.specs.declared.Stepped.{Stepped}
-use Rattle.panel.specs.Panel.{lawful, unchanged, counted, added, afterHour, panelStep}
+use Rattle.panel.specs.Panel.{unchanged, counted, added, afterHour, panelStep}
 use Rattle.panel.proofs.Laws.{lawful-total, missing-le, lawful-of, step-unlawful, step-full, step-room, added-over, added-sum}
 
 -- ---- a total is lawful exactly where it is a whole number up to 2 ^ 53 with the sign +

@@ -8,14 +8,14 @@ use borrow.Author.Tests.{lt-ltb, le-ltb, le-leb, lt-leb}
 use Rattle.law.specs.Words.{need}
 use Rattle.reading.specs.declared.Hour.{Hour}
 use Rattle.reading.specs.Reading.{figuresOf}
-use Rattle.lawful.specs.Lawful.{whole, lawfulTotal, lawfulState, asTotal}
+use Rattle.panel.specs.Lawful.{whole, lawfulTotal, lawful, asTotal}
 use Rattle.panel.specs.declared.Panel.{Panel}
-use Rattle.panel.specs.Panel.{lawful, unchanged, counted, added, afterHour, panelStep}
+use Rattle.panel.specs.Panel.{unchanged, counted, added, afterHour, panelStep}
 
 -- ---- what a lawful panel is
 module _ (p : Panel) (l : T (lawful p)) where
   front : T (lawfulTotal (p .total) && leb (p .hours) 2_208)
-  unfolding lawful lawfulState
+  unfolding lawful
   front = and-l (lawfulTotal (p .total) && leb (p .hours) 2_208) (leb (p .missing) (p .hours)) l
 
   pub lawful-total : T (lawfulTotal (p .total))
@@ -25,11 +25,11 @@ module _ (p : Panel) (l : T (lawful p)) where
   hours-le = leb→le (p .hours) 2_208 (and-r (lawfulTotal (p .total)) (leb (p .hours) 2_208) front)
 
   pub missing-le : p .missing ≤ p .hours
-  unfolding lawful lawfulState
+  unfolding lawful
   missing-le = leb→le (p .missing) (p .hours) (and-r (lawfulTotal (p .total) && leb (p .hours) 2_208) (leb (p .missing) (p .hours)) l)
 
 pub lawful-of : (p : Panel) → T (lawfulTotal (p .total)) → p .hours ≤ 2_208 → p .missing ≤ p .hours → T (lawful p)
-unfolding lawful lawfulState
+unfolding lawful
 lawful-of p t h m =
     and-i (lawfulTotal (p .total) && leb (p .hours) 2_208) (leb (p .missing) (p .hours))
     (and-i (lawfulTotal (p .total)) (leb (p .hours) 2_208) t (le→leb (p .hours) 2_208 h))

@@ -7,7 +7,7 @@ use mathlib.Core.List.{List, [], _∷_}
 use Prim.Native.Nat.{ℕ, suc, _+_, _*_, _^_, _≤_, _<_}
 use native.Mathlib.Nat.{zero-add, add-zero}
 use native.Mathlib.Omega.{arith}
-use lib.ListN.{length, getD}
+use lib.ListN.{length}
 use lib.Ieee.Bits.{is-true}
 use lib.Ieee.Exact.{HasValue}
 use Rattle.law.specs.Words.{sumOf}
@@ -15,12 +15,12 @@ use Rattle.reading.specs.declared.Hour.{Hour}
 use Rattle.reading.specs.declared.Figures.{Figures}
 use Rattle.reading.specs.declared.Figures.the-variants.{Both, NoData, NotRunning, Unfit}
 use Rattle.reading.specs.Reading.{stated, statedHour, figuresOf}
-use Rattle.lawful.specs.Lawful.{whole, asTotal}
-use Rattle.lawful.proofs.Whole.{value, total-lawful, whole-of}
+use Rattle.panel.specs.Lawful.{whole, lawful, asTotal}
+use Rattle.panel.proofs.Whole.{value, total-lawful, whole-of}
 use Rattle.panel.specs.declared.Panel.{Panel}
 use Rattle.panel.specs.declared.Stepped.{Stepped}
 use Rattle.panel.specs.Runs.{product, missingHour, products, missingHours, after, NoneRefused, NoneBad}
-use Rattle.panel.specs.Panel.{lawful, unchanged, counted, afterHour, panelStep, emptyPanel}
+use Rattle.panel.specs.Panel.{unchanged, counted, afterHour, panelStep, emptyPanel}
 use Rattle.panel.proofs.Laws.{lawful-of, step-room, added-sum}
 use Rattle.panel.proofs.Cases.{Taken, unfit, missed, stopped, over, sum, Promise, unlawful, full, room, meets}
 

@@ -1,6 +1,5 @@
 -- "The panel keeps a running total as an f64, with its hours and missing hours, and each hour hands the next state back"; 12, 11, 4, 10.
 use Prim.Native.Nat.{ℕ, _+_, _*_, _^_}
-use mathlib.Core.Bool.{Bool}
 use lib.Dec.{leb, ltb}
 use lib.Ieee.{Float}
 use Rattle.law.specs.Words.{need}
@@ -8,13 +7,9 @@ use Rattle.reading.specs.declared.Hour.{Hour}
 use Rattle.reading.specs.declared.Figures.{Figures}
 use Rattle.reading.specs.declared.Figures.the-variants.{Both, NoData, NotRunning, Unfit}
 use Rattle.reading.specs.Reading.{statedHour, figuresOf}
-use Rattle.lawful.specs.Lawful.{whole, lawfulState, asTotal}
 use Rattle.panel.specs.declared.Panel.{Panel}
 use Rattle.panel.specs.declared.Stepped.{Stepped}
-
--- 12: "total not a whole number from +0 to 2^53, hours over 2,208, missing over hours"
-unfoldable pub lawful : Panel → Bool
-lawful p = lawfulState (p .total) (p .hours) (p .missing)
+use Rattle.panel.specs.Lawful.{whole, lawful, asTotal}
 
 -- "with the state unchanged"
 unfoldable pub unchanged : ℕ → Panel → Stepped

@@ -2,12 +2,12 @@
 ghost use mathlib.Core.Path.{_≡_};
 ghost use mathlib.Core.Bool.{true};
 ghost use Prim.Native.Nat.{_*_, _<_};
-ghost use Rattle.lawful.specs.Lawful.{lawfulTotal};
+ghost use Rattle.panel.specs.Lawful.{lawfulTotal};
 ghost use Rattle.panel.specs.Panel.{unchanged, counted, added, panelStep, emptyPanel};
-use lawful::lawful_state;
 use reading::Figures;
 use reading::Hour;
-use sum::add_product;
+
+mod lawful;
 
 // "The panel keeps a running total as an f64, with its hours and missing hours."
 pub struct Panel {
@@ -53,16 +53,17 @@ impl Panel {
         }
     }
 
-    // 10, or the product added to the total.
+    // 10, or the product added to the total. The limit is tested in whole numbers: as an f64, 2^53 + 1 is 2^53.
     fn add(mut self, c: u32, l: u32) -> Stepped
         requires { ⌜ (lawfulTotal (self .total) ≡ true) × (self .hours < 2208) ⌝ }
         ensures { λ r. ⌜ r ≡ added self (c * l) ⌝ }
     {
-        let s = add_product(self.total, c, l);
-        if s.refused {
+        let product = (c as u64) * (l as u64);
+        let n = self.total as u64;
+        if product > 9_007_199_254_740_992 - n {
             return self.refuse(10);
         }
-        self.total = s.total;
+        self.total += product as f64;
         self.count()
     }
 
@@ -70,7 +71,7 @@ impl Panel {
     pub fn hour(mut self, h: Hour) -> Stepped
         ensures { λ r. ⌜ r ≡ panelStep self h ⌝ }
     {
-        if !lawful_state(self.total, self.hours, self.missing) {
+        if !lawful::lawful_state(self) {
             return self.refuse(12);
         }
         if self.hours >= 2208 {

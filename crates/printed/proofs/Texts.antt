@@ -14,7 +14,7 @@ use Rattle.rules.specs.Walk.{outcome}
 use Rattle.rules.specs.Account.{refusal, acceptance, workFits, Promise}
 use Rattle.answers.proofs.Rows.{row-behind}
 use Rattle.answers.proofs.Answers.{stated, denied}
-use Rattle.writing.specs.Numbers.{spaced}
+use Rattle.text.specs.Numbers.{spaced}
 use Rattle.text.specs.Line.{refusedLine}
 use Rattle.text.specs.Text.{Text, rowsText, statedText, statedLines}
 use Rattle.text.proofs.Texts.{text-as, text-within, all-there}

@@ -8,7 +8,7 @@ use Rattle.rules.specs.Judge.{refuse}
 use Rattle.rules.specs.Lines.{Line}
 use Rattle.rules.specs.Row.{rowOf, totalsOf}
 use Rattle.rules.specs.Walk.{Outcome, Refused, Accepted, outcome}
-use Rattle.writing.specs.Numbers.{spaced}
+use Rattle.text.specs.Numbers.{spaced}
 use Rattle.text.specs.Line.{refusedLine, totalsLine}
 
 -- "it prints one line a row (fields as above)", of lines of which the newest stands first

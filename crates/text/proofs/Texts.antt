@@ -1,23 +1,18 @@
 -- A text from the start of the buffer: what is written is what the definition gives. Assumes nothing.
 use mathlib.Core.Path.{_≡_, refl, sym, ap, ap₂, _∙_, subst}
 use mathlib.Core.Bool.{Bool, true, false}
-use mathlib.Core.List.{List, [], _∷_, _++_}
-use Prim.Native.Nat.{ℕ, _+_, _*_, _<_, _≤_}
+use mathlib.Core.List.{List, [], _++_}
+use Prim.Native.Nat.{ℕ, _*_, _<_, _≤_}
 use native.Mathlib.Omega.{arith}
 use lib.ListN.{length, drop, length-append, take-append-drop}
 use lib.Dec.{leb}
 use Rattle.law.specs.Words.{need}
 use Rattle.law.proofs.Tests.{need-le, need-not-le, need-case}
-use Rattle.rules.specs.Judge.{refuse}
-use Rattle.writing.specs.Numbers.{spaced}
-use Rattle.writing.specs.Written.{Wrote, Put}
-use Rattle.writing.proofs.Wrote.{wrote-on}
-use Rattle.text.specs.Line.{refusedLine, totalsLine}
-use Rattle.text.specs.Text.{Text, rowsText, statedText, statedLines}
-use Rattle.text.proofs.Rows.{rows-most}
+use Rattle.text.specs.Written.{Wrote}
+use Rattle.text.specs.Text.{Text, statedText, statedLines}
 
 -- ---- a text from the start of the buffer
-text-is : (bytes old new : List ℕ) (r : ℕ) → 8_192 ≤ length old → Wrote old 0 bytes new r → Text bytes old new r
+pub text-is : (bytes old new : List ℕ) (r : ℕ) → 8_192 ≤ length old → Wrote old 0 bytes new r → Text bytes old new r
 text-is bytes old new r l p =
     let n : r ≡ length bytes = omega (arith, p .ends) in
     record {
@@ -52,25 +47,6 @@ text-within bytes old new r t = within-by (leb 8_192 (length old)) (t .counts) (
     within-by : (fits : Bool) → r ≡ need 0 fits (length bytes) → new ≡ need old fits (bytes ++ drop (length bytes) old) → r ≤ length new
     within-by true c s = omega (arith, c, ap length s, length-append bytes (drop (length bytes) old))
     within-by false c s = omega (arith, c)
-
--- ---- the two texts, for which there is room
-pub refused-wrote : (old text new : List ℕ) (at r number place : ℕ) → 8_192 ≤ length old → length text ≡ length old
-    → Put 8 old 0 (114 ∷ 101 ∷ 102 ∷ 117 ∷ 115 ∷ 101 ∷ 100 ∷ 32 ∷ []) text at → Put 43 text at (spaced (number ∷ place ∷ [])) new r
-    → Text (refusedLine (refuse number place)) old new r
-unfolding refusedLine refuse
-refused-wrote old text new at r number place l k p q =
-    let w = p .fits (omega (arith, l)) in
-    text-is _ old new r l (wrote-on old text new _ (spaced (number ∷ place ∷ [])) 0 at r w (q .fits (omega (arith, l, k, w .ends))))
-
-pub stated-wrote : (old text next new rows totals : List ℕ) (n end at r : ℕ) → 8_192 ≤ length old → n ≤ 48 → length text ≡ length old → length next ≡ length text
-    → length totals ≡ 3 → Wrote old 0 (rowsText rows n) text end → Put 6 text end (116 ∷ 111 ∷ 116 ∷ 97 ∷ 108 ∷ 32 ∷ []) next at
-    → Put (21 * length totals + 1) next at (spaced totals) new r → Text (statedText rows n totals) old new r
-unfolding statedText totalsLine
-stated-wrote old text next new rows totals n end at r l few j k three p q s =
-    let most : end ≤ 7_104 = omega (arith, few, p .ends, rows-most rows n) in
-    let w = q .fits (omega (arith, l, j, most)) in
-    let v = s .fits (omega (arith, l, j, k, three, most, w .ends)) in
-    text-is _ old new r l (wrote-on old text new (rowsText rows n) _ 0 end r p (wrote-on text next new _ (spaced totals) end at r w v))
 
 -- ---- rows that are not there have no text
 module _ (rows : List ℕ) (n : ℕ) (totals : List ℕ) where

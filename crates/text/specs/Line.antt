@@ -2,7 +2,7 @@
 use Prim.Native.Nat.{ℕ}
 use mathlib.Core.List.{List, [], _∷_, _++_}
 use Rattle.rules.specs.declared.Fault.{Fault}
-use Rattle.writing.specs.Numbers.{spaced}
+use Rattle.text.specs.Numbers.{spaced}
 
 -- "refused N OFFSET"
 unfoldable pub refusedLine : Fault → List ℕ

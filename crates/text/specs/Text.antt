@@ -5,7 +5,7 @@ use mathlib.Core.Path.{_≡_}
 use lib.ListN.{length, take, drop}
 use lib.Dec.{leb}
 use Rattle.law.specs.Words.{need}
-use Rattle.writing.specs.Numbers.{spaced}
+use Rattle.text.specs.Numbers.{spaced}
 use Rattle.text.specs.Line.{totalsLine}
 
 -- no text is longer than 8,192 bytes: into a shorter buffer nothing is written, and 0 bytes are counted; else exactly these bytes stand at its start, and

@@ -2,11 +2,13 @@
 ghost use Prim.Native.Nat.{_*_, _≤_};
 ghost use lib.ListN.{length};
 ghost use Rattle.rules.specs.Judge.{refuse};
-ghost use Rattle.writing.specs.Written.{Wrote};
+ghost use Rattle.text.specs.Written.{Wrote};
 ghost use Rattle.text.specs.Line.{refusedLine};
 ghost use Rattle.text.specs.Text.{Text, rowsText, statedLines};
-use writing::put_bytes;
-use writing::put_spaced;
+use crate::writing::put_bytes;
+use crate::writing::put_spaced;
+
+mod writing;
 
 // No text is longer: 48 rows of seven numbers, and a line of three.
 const LONGEST: usize = 8192;

@@ -1,8 +1,9 @@
 -- `text::put_rows` meets its contract. Assumes nothing.
 use Prim.Native.Nat.{_-_, _≤_}
 use native.Mathlib.Omega.{arith}
+use lib.ListN.{length-take, length-drop}
 use borrow.Author.Needs.{needs}
-use Rattle.text.proofs.Rows.{Lining, lining-start, lining-on, lining-done}
+use Rattle.text.proofs.Rows.{Lining, lining-start, lining-room, lining-on, lining-done}
 use Rattle.text.proofs.put_rows.Statement.{statement}
 use Rattle.text.proofs.put_rows.Tie as tie
 
@@ -34,7 +35,10 @@ part-put-spaced-end : tie.Need-part-put-spaced-end Inv-loop μ-loop
 part-put-spaced-end c = search needs
 
 put-spaced-requires : tie.Need-put-spaced-requires Inv-loop μ-loop
-put-spaced-requires c κs = search needs
+put-spaced-requires c κs =
+    let t = c .before .before in
+    let s = t .before .before .before .before in
+    lining-room _ _ _ _ _ _ _ (t .before .loop .inv .0) (t .loop-test .taken) (s .pre .1) (simp (length-take, length-drop) (omega (arith, t .loop-test .taken, s .pre .0)))
 
 add-i : tie.Need-add-i Inv-loop μ-loop
 add-i c = search needs
@@ -46,11 +50,7 @@ loop-again : tie.Need-loop-again Inv-loop μ-loop
 loop-again c =
     let n = c .before .before in
     let t = n .before .before .before in
-    let a = t .before in
-    let s = a .before .before .before in (
-      lining-on _ _ _ _ _ _ _ (a .loop .inv .0) (omega (arith, s .pre .0, t .loop-test .taken)) (omega (arith, s .pre .1, t .loop-test .taken)) (n .put-spaced .kept .0) (n .put-spaced .ensures),
-      omega (arith, t .loop-test .taken),
-    )
+    (lining-on _ _ _ _ _ _ _ (t .before .loop .inv .0) (n .put-spaced .kept .0) (n .put-spaced .ensures), omega (arith, t .loop-test .taken))
 
 same-length : tie.Need-same-length Inv-loop μ-loop
 same-length c = c .before .loop .inv .0 .long

@@ -1,6 +1,9 @@
 -- `text::refused_text` meets its contract. Assumes nothing.
 use borrow.Author.Needs.{needs}
-use Rattle.text.proofs.Texts.{text-short, refused-wrote}
+use Rattle.rules.specs.Judge.{refuse}
+use Rattle.text.specs.Line.{refusedLine}
+use Rattle.text.proofs.Wrote.{wrote-on}
+use Rattle.text.proofs.Texts.{text-is, text-short}
 use Rattle.text.proofs.refused_text.Statement.{statement}
 use Rattle.text.proofs.refused_text.Tie as tie
 
@@ -23,10 +26,11 @@ same-length : tie.Need-same-length
 same-length c = search needs
 
 returns-2 : tie.Need-returns-2
+unfolding refusedLine refuse
 returns-2 c =
     let s = c .before .before in
     let b = s .before .before .before .before .before in
-    refused-wrote _ _ _ _ _ _ _ (b .before .before .before .if1 .left) (b .put-bytes .kept .0) (b .put-bytes .ensures) (s .put-spaced .ensures)
+    text-is _ _ _ _ (b .before .before .before .if1 .left) (wrote-on _ _ _ _ _ _ _ _ (b .put-bytes .ensures) (s .put-spaced .ensures))
 
 pub refused-text-spec : {M : Type 1} → statement M
 refused-text-spec =

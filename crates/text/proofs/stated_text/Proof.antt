@@ -1,7 +1,11 @@
 -- `text::stated_text` meets its contract, by its three tests in turn. Assumes nothing.
 use native.Mathlib.Omega.{arith}
 use borrow.Author.Needs.{needs}
-use Rattle.text.proofs.Texts.{text-as, text-short, text-none, stated-wrote, too-many, not-there, all-there}
+use Rattle.text.specs.Line.{totalsLine}
+use Rattle.text.specs.Text.{statedText}
+use Rattle.text.proofs.Wrote.{wrote-on}
+use Rattle.text.proofs.Rows.{rows-end}
+use Rattle.text.proofs.Texts.{text-is, text-as, text-short, text-none, too-many, not-there, all-there}
 use Rattle.text.proofs.stated_text.Statement.{statement}
 use Rattle.text.proofs.stated_text.Tie as tie
 
@@ -24,23 +28,32 @@ slice-aggregate-put-bytes : tie.Need-slice-aggregate-put-bytes
 slice-aggregate-put-bytes c = search needs
 
 put-bytes-requires : tie.Need-put-bytes-requires
-put-bytes-requires c κs = search needs
+put-bytes-requires c κs =
+    let w = c .before .before .before .before in
+    let t = w .before .before in
+    omega (arith, rows-end _ _ _ _ _ (w .put-rows .ensures) (omega (arith, t .before .if2 .left)), w .put-rows .kept .0, t .before .before .if1 .left)
 
 put-spaced-requires : tie.Need-put-spaced-requires
-put-spaced-requires c κs = search needs
+put-spaced-requires c κs =
+    let b = c .before .before .before .before in
+    let w = b .before .before .before .before .before in
+    let t = w .before .before in (
+      omega arith,
+      omega (arith, b .put-bytes .ensures .ends, b .put-bytes .kept .0, rows-end _ _ _ _ _ (w .put-rows .ensures) (omega (arith, t .before .if2 .left)), w .put-rows .kept .0, t .before .before .if1 .left),
+    )
 
 same-length : tie.Need-same-length
 same-length c = search needs
 
 returns-4 : tie.Need-returns-4
+unfolding statedText totalsLine
 returns-4 c =
     let s = c .before .before in
     let b = s .before .before .before .before .before in
     let w = b .before .before .before .before .before in
     let t = w .before .before in
     text-as _ _ _ _ _ (all-there _ _ _ (t .before .if2 .left) (t .if3 .left))
-    (stated-wrote _ _ _ _ _ _ _ _ _ _ (t .before .before .if1 .left) (t .before .if2 .left) (w .put-rows .kept .0) (b .put-bytes .kept .0) (omega arith)
-    (w .put-rows .ensures) (b .put-bytes .ensures) (s .put-spaced .ensures))
+    (text-is _ _ _ _ (t .before .before .if1 .left) (wrote-on _ _ _ _ _ _ _ _ (w .put-rows .ensures) (wrote-on _ _ _ _ _ _ _ _ (b .put-bytes .ensures) (s .put-spaced .ensures))))
 
 pub stated-text-spec : {M : Type 1} → statement M
 stated-text-spec =

@@ -11,7 +11,8 @@ use Rattle.reading.proofs.Laws.{stated-hour-only}
 use Rattle.reading.specs.declared.Figures.{Figures}
 use Rattle.panel.specs.declared.Panel.{Panel}
 use Rattle.reading.specs.declared.Hour.{Hour}
-use Rattle.panel.specs.Panel.{lawful, counted, afterHour, panelStep}
+use Rattle.panel.specs.Lawful.{lawful}
+use Rattle.panel.specs.Panel.{counted, afterHour, panelStep}
 use Rattle.panel.proofs.Laws.{lawful-total, missing-le, step-unlawful, step-full, step-room}
 use Rattle.panel.proofs.Panel.hour.Statement.{statement}
 use Rattle.panel.proofs.Panel.hour.Tie as tie
@@ -23,12 +24,10 @@ refuse-requires : tie.Need-refuse-requires
 refuse-requires c κs = search needs
 
 returns : tie.Need-returns
-unfolding lawful
 returns c = c .refuse .ensures ∙ sym (step-unlawful _ _ (sym (c .before .before .lawful-state .ensures) ∙ not-true _ (c .before .if1 .taken)))
 
 -- ---- past the first test the panel is lawful, past the second it has room
 law : (c : tie.Else1) → lawful (c .before .before .args .self) ≡ true
-unfolding lawful
 law c = sym (c .before .lawful-state .ensures) ∙ not-false _ (c .if1 .left)
 
 refuse-requires-2 : tie.Need-refuse-requires-2

@@ -1,0 +1,15 @@
+-- `exports::faces::answer_cells` meets its contract: the cells are the answer's fields in their order. Assumes nothing.
+use mathlib.Core.Path.{refl}
+use borrow.Author.Needs.{needs}
+use Rattle.law.specs.Words.{table}
+use Rattle.exports.specs.Faces.{answerCells}
+use Rattle.exports.proofs.faces.answer_cells.Statement.{statement}
+use Rattle.exports.proofs.faces.answer_cells.Tie as tie
+
+returns : tie.Need-returns
+unfolding answerCells table
+returns c = refl
+
+pub answer-cells-spec : {M : Type 1} → statement M
+answer-cells-spec =
+    tie.close (tie.spec (λ c. search needs) (λ c. search needs) (λ c. search needs) (λ c. search needs) returns)
