@@ -31,20 +31,6 @@ def listed():
     return deps
 
 
-def names(crates):
-    """Every definition that computing opens, as use lines and as one list."""
-    uses, opened = [], []
-    for c in crates:
-        specs = os.path.join(WORK, 'crates', c, 'specs')
-        for f in sorted(os.listdir(specs)):
-            text = open(os.path.join(specs, f), encoding='utf-8').read()
-            ns = re.findall(r'^\s*unfoldable pub (\S+)', text, re.M)
-            if ns:
-                uses.append('use Rattle.%s.specs.%s.{%s}' % (c, f[:-5], ', '.join(ns)))
-                opened += ns
-    return uses, opened
-
-
 def definition(crate, parts, deps, lines):
     """Some files of a crate's definitions alone, without the calls that write what they define."""
     here = os.path.join(WORK, 'crates', crate)
@@ -62,14 +48,14 @@ def number(b):
     return '0x%x' % int.from_bytes(b, 'little')
 
 
-def module(files, uses, opened):
+def module(files):
     out = ['use Prim.Native.Nat.{ℕ, zero, suc, _/_, _%_}', 'use mathlib.Core.List.{List, [], _∷_}', 'use mathlib.Core.Path.{_≡_, refl}',
-           'use lib.Ieee.{ofBits}'] + uses + ['', '-- n bytes, the lowest first', 'unfoldable spread : ℕ → ℕ → List ℕ', 'spread zero x = []',
+           'use Rattle.printed.specs.Program.{printed}', 'use Rattle.printed.specs.Opened.{prints}', '', '-- n bytes, the lowest first', 'unfoldable spread : ℕ → ℕ → List ℕ', 'spread zero x = []',
            'spread (suc n) x = x % 256 ∷ spread n (x / 256)', '']
     for i, f in enumerate(files):
         x, y = open(f, 'rb').read(), open(f[:-4] + '.out', 'rb').read()
         out += ['-- ' + os.path.basename(f), 'f%d : printed (spread %d %s) ≡ spread %d %s' % (i, len(x), number(x), len(y), number(y)),
-                'unfolding spread ofBits ' + ' '.join(opened), 'f%d = refl' % i, '']
+                'unfolding spread prints', 'f%d = refl' % i, '']
     return '\n'.join(out)
 
 
@@ -92,9 +78,8 @@ def main(args):
     for c in base:
         os.symlink(os.path.join(ROOT, 'crates', c), os.path.join(WORK, 'crates', c))
         lines.append('%s: %s' % (c, ' '.join(deps[c])))
-    base.append(definition('text', ['Numbers', 'Line'], 'law rules', lines))
-    base.append(definition('printed', ['Program'], 'law rules text', lines))
-    uses, opened = names(base)
+    base.append(definition('text', ['Numbers', 'Line', 'Opened'], 'law rules', lines))
+    base.append(definition('printed', ['Program', 'Opened'], 'law rules text', lines))
     for k in range(0, len(files), BATCH):
         c = 'computed%d' % (k // BATCH)
         made.append(c)
@@ -103,7 +88,7 @@ def main(args):
         write = lambda p, t: open(os.path.join(WORK, 'crates', c, p), 'w', encoding='utf-8').write(t)
         write('src/lib.rt', '// Computed.\n')
         write('specs/Lib.antt', 'pub mod Computed\n')
-        write('specs/Computed.antt', module(files[k:k + BATCH], uses, opened))
+        write('specs/Computed.antt', module(files[k:k + BATCH]))
         lines.append('%s: %s' % (c, ' '.join(base)))
     open(os.path.join(WORK, 'crates.txt'), 'w').write('\n'.join(lines) + '\n')
     start = time.time()

