@@ -12,7 +12,7 @@ fn fill_line(runs: &[u32; 92], measured: &[u32; 92], days: u8, conc: &mut [u32],
     ensures { λ _. ⌜ (now (conc .exit) ≡ filledCells (periodStates (now (runs .entry)) (now (measured .entry)) days) (now (conc .entry))) × (now (flow .exit) ≡ filledCells (periodStates (now (runs .entry)) (now (measured .entry)) days) (now (flow .entry))) ⌝ }
 {
     let mut states = [0u8; 2208];
-    states::hour_states(runs, measured, days, &mut states);
+    hours::hour_states(runs, measured, days, &mut states);
     let n = 24 * (days as usize);
     gaps::fill_gaps(&states[0..n], conc, flow);
 }

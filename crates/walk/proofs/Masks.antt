@@ -10,8 +10,7 @@ use lib.Dec.{eqb}
 use Rattle.law.specs.Words.{pick, seek}
 use Rattle.law.proofs.Tables.{table-same}
 use Rattle.rules.specs.Hours.{bit, runsAt, lacksAt, firstMissing}
-use Rattle.bits.specs.State.{stateOf}
-use Rattle.hours.specs.States.{stateAt}
+use Rattle.hours.specs.States.{stateOf, stateAt}
 use Rattle.period.specs.Period.{periodStates}
 
 mask-kept : (n : ℕ) (masks own : List ℕ) (h : ℕ) → take n masks ≡ own → h < 24 * n → getD masks (h / 24) 0 ≡ getD own (h / 24) 0
