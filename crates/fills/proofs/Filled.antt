@@ -5,7 +5,7 @@ use mathlib.Core.List.{List, [], reverse}
 use Prim.Native.Nat.{ℕ, _+_, _<_, _≤_}
 use native.Mathlib.Omega.{arith}
 use lib.ListN.{length, getD, take, drop, List·getD-append}
-use lib.Seq.{take-at, take-length}
+use lib.Seq.{take-at}
 use lib.Dec.{eqb}
 use borrow.Author.Tests.{eqb-true, eqb-false}
 use Rattle.law.specs.Words.{table}
@@ -14,15 +14,9 @@ use Rattle.law.proofs.Over.{over-back}
 use Rattle.law.proofs.Tables.{table-length, table-at, table-is}
 use Rattle.rules.specs.Slots.{Slot, missing, stopped, entry, entries}
 use Rattle.rules.specs.Fill.{fill, meanUp, same}
-use Rattle.fills.specs.Gaps.{slotAt, hoursIn, hoursInBoth, slotsIn, fillAt, cellAt, filledCells}
+use Rattle.fills.specs.Gaps.{slotAt, hoursIn, slotsIn, fillAt, cellAt, filledCells}
 use Rattle.fills.proofs.Entries.{entries-length, line-at}
-use Rattle.fills.proofs.States.{hours-all, hours-all-both, slots-length, slot-valid, slot-missing, slot-stopped}
-
--- both quantities are filled as each by itself, where every hour that has a state has both cells
-pub filled-both : (states concentrations flows values : List ℕ) → length states ≤ length concentrations → length states ≤ length flows → length states ≤ 2_208
-    → filledCells (take (hoursInBoth states concentrations flows) states) values ≡ filledCells states values
-filled-both states concentrations flows values c l m =
-    ap (λ (s : List ℕ). filledCells s values) (ap (λ (k : ℕ). take k states) (hours-all-both states concentrations flows c l m) ∙ take-length states)
+use Rattle.fills.proofs.States.{hours-all, slots-length, slot-valid, slot-missing, slot-stopped}
 
 module _ (states values : List ℕ) where
   abbrev n : ℕ

@@ -12,18 +12,13 @@ use Rattle.law.specs.Words.{pick}
 use Rattle.law.proofs.Tests.{pick-eq, pick-not-eq}
 use Rattle.law.proofs.Tables.{table-length, table-at}
 use Rattle.rules.specs.Slots.{valid, missing, stopped, run, valids}
-use Rattle.fills.specs.Gaps.{slotAt, row, hoursIn, hoursInBoth, slotsIn}
+use Rattle.fills.specs.Gaps.{slotAt, row, hoursIn, slotsIn}
 use Rattle.fills.proofs.Neighbours.{At, Empty, from, run-from, run-end, valids-from, valids-end, alike-step}
 
 -- all hours that have a state are looked at, where each has a cell and there are no more than a quarter has
 pub hours-all : (states values : List ℕ) → length states ≤ length values → length states ≤ 2_208 → hoursIn states values ≡ length states
 unfolding hoursIn
 hours-all states values l m = omega arith
-
-pub hours-all-both : (states concentrations flows : List ℕ) → length states ≤ length concentrations → length states ≤ length flows → length states ≤ 2_208
-    → hoursInBoth states concentrations flows ≡ length states
-unfolding hoursInBoth
-hours-all-both states concentrations flows c l m = omega arith
 
 module _ (states values : List ℕ) where
   pub slots-length : length (slotsIn states values) ≡ hoursIn states values

@@ -19,10 +19,6 @@ row states values = table (slotAt states values) (length states)
 unfoldable pub hoursIn : List ℕ → List ℕ → ℕ
 hoursIn states values = min (min (length states) (length values)) 2_208
 
--- the hours that have a state and both cells, and no more than a quarter has
-unfoldable pub hoursInBoth : List ℕ → List ℕ → List ℕ → ℕ
-hoursInBoth states concentrations flows = min (min (min (length states) (length concentrations)) (length flows)) 2_208
-
 -- those hours in a row
 unfoldable pub slotsIn : List ℕ → List ℕ → List (Slot ℕ)
 slotsIn states values = table (slotAt states values) (hoursIn states values)

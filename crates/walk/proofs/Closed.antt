@@ -16,9 +16,9 @@ use Rattle.rules.specs.declared.View.{View}
 use Rattle.walk.specs.declared.books.Sums.{Sums}
 use Rattle.walk.specs.Taking.{EndReady, EndTaken}
 use Rattle.method.specs.Open.{lineMethod}
-use Rattle.period.specs.Period.{periodStates, isFilled, periodCells}
+use Rattle.fills.specs.Period.{periodStates, isFilled, periodCells}
 use Rattle.line.specs.Line.{rowIn}
-use Rattle.period.proofs.Filled.{filled-on, filled-off}
+use Rattle.fills.proofs.Period.{filled-on, filled-off}
 use Rattle.line.proofs.Halves.{grams-by}
 use Rattle.walk.specs.declared.take.Taken.{Taken}
 use Rattle.walk.specs.Books.{patched}

@@ -35,7 +35,7 @@ use Rattle.walk.specs.Views.{afterEnd}
 use Rattle.walk.specs.Books.{noRows, patched, valuesAt, CellsKept, Kept}
 use Rattle.walk.specs.Closing.{gramsIn, periodWeight, LineGrams}
 use Rattle.walk.specs.Taking.{EndTaken}
-use Rattle.period.specs.Period.{periodStates}
+use Rattle.fills.specs.Period.{periodStates}
 use Rattle.line.specs.Line.{rowIn}
 use Rattle.method.specs.Open.{lineMethod}
 use Rattle.walk.proofs.Views.{survey-count, view-end}
