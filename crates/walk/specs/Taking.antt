@@ -11,8 +11,8 @@ use Rattle.rules.specs.declared.Batch.{Batch}
 use Rattle.rules.specs.declared.View.{View}
 use Rattle.rules.specs.Records.{dayOf}
 use Rattle.method.specs.Open.{lineMethod}
-use Rattle.surveyed.specs.declared.Weighed.{Weighed}
-use Rattle.surveyed.specs.Put.{beats, SurveyPut, PlantPut}
+use Rattle.line.specs.declared.surveyed.Weighed.{Weighed}
+use Rattle.line.specs.Put.{beats, SurveyPut, PlantPut}
 use Rattle.line.specs.Line.{rowIn}
 use Rattle.rules.specs.Judge.{fine, judgeHours}
 use Rattle.record.specs.declared.DayMasks.{DayMasks}

@@ -10,7 +10,7 @@ use Rattle.rules.specs.declared.View.{View}
 use Rattle.rules.specs.Hours.{runningOf, missingOf}
 use Rattle.rules.specs.Judge.{refuse, fine, first, key}
 use Rattle.rules.specs.Walk.{noHead}
-use Rattle.surveyed.specs.declared.Weighed.{Weighed}
+use Rattle.line.specs.declared.surveyed.Weighed.{Weighed}
 use Rattle.record.specs.declared.DayMasks.{DayMasks}
 use Rattle.rules.specs.declared.Fault.{Fault}
 use Rattle.walk.specs.declared.books.Sums.{Sums}

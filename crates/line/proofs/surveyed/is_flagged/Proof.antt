@@ -1,8 +1,8 @@
--- `surveyed::is_flagged` meets its contract. Assumes nothing.
+-- `line::surveyed::is_flagged` meets its contract. Assumes nothing.
 use borrow.Author.Needs.{needs}
-use Rattle.surveyed.proofs.Surveyed.{beats-within, beats-past}
-use Rattle.surveyed.proofs.is_flagged.Statement.{statement}
-use Rattle.surveyed.proofs.is_flagged.Tie as tie
+use Rattle.line.proofs.Surveys.{beats-within, beats-past}
+use Rattle.line.proofs.surveyed.is_flagged.Statement.{statement}
+use Rattle.line.proofs.surveyed.is_flagged.Tie as tie
 
 returns : tie.Need-returns
 returns c = beats-past _ _ (c .if1 .taken)

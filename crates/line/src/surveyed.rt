@@ -1,8 +1,9 @@
 // A survey put in at its hour of a line's period, and weighed.
+use crate::product;
 use rules::Survey;
 ghost use mathlib.Core.Path.{_≡_};
 ghost use Rattle.rules.specs.Hours.{runsAt};
-ghost use Rattle.surveyed.specs.Put.{replacedCell, beats, SurveyPut, PlantPut};
+ghost use Rattle.line.specs.Put.{replacedCell, beats, SurveyPut, PlantPut};
 
 // What a survey adds to those of a line: one hour and its c x l, or nothing.
 pub struct Weighed {
@@ -33,7 +34,7 @@ pub fn put_survey(t: Survey, measured: &[u32; 92], conc: &mut [u32], flow: &mut 
     replace(measured, t.hour, f.flow, flow);
     Weighed {
         count: 1,
-        weight: line::product(f.concentration, f.flow),
+        weight: product(f.concentration, f.flow),
     }
 }
 

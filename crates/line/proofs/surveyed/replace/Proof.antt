@@ -1,10 +1,10 @@
--- `surveyed::replace` meets its contract: past the cells nothing is set. Assumes nothing.
+-- `line::surveyed::replace` meets its contract: past the cells nothing is set. Assumes nothing.
 use borrow.Author.Needs.{needs}
 use mathlib.Core.Path.{refl, sym, _∙_}
 use Rattle.law.proofs.Tests.{pick-true, pick-false}
-use Rattle.surveyed.proofs.Surveyed.{replaced-past}
-use Rattle.surveyed.proofs.replace.Statement.{statement}
-use Rattle.surveyed.proofs.replace.Tie as tie
+use Rattle.line.proofs.Surveys.{replaced-past}
+use Rattle.line.proofs.surveyed.replace.Statement.{statement}
+use Rattle.line.proofs.surveyed.replace.Tie as tie
 
 returns : tie.Need-returns
 returns c = replaced-past _ _ _ _ (c .if1 .taken)

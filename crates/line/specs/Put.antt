@@ -8,7 +8,7 @@ use lib.Dec.{eqb, ltb}
 use Rattle.law.specs.Words.{pick}
 use Rattle.reading.specs.Reading.{reading, concentrationOf, flowOf, flaggedOf}
 use Rattle.rules.specs.declared.Survey.{Survey}
-use Rattle.surveyed.specs.declared.Weighed.{Weighed}
+use Rattle.line.specs.declared.surveyed.Weighed.{Weighed}
 
 -- the cell of hour h replaced, where the hour is measured
 abbrev pub replacedCell : Bool → ℕ → ℕ → List ℕ → List ℕ

@@ -1,13 +1,13 @@
--- `surveyed::put_survey` meets its contract. Assumes nothing.
+-- `line::surveyed::put_survey` meets its contract. Assumes nothing.
 use borrow.Author.Needs.{needs}
 use mathlib.Core.Path.{ap, ap₂, _∙_}
 use Prim.Native.Nat.{ℕ, _*_}
 use denote.Ref.{now}
 use Rattle.rules.specs.Hours.{runsAt}
-use Rattle.surveyed.specs.Put.{replacedCell}
-use Rattle.surveyed.proofs.Surveyed.{concentration-is, flow-is}
-use Rattle.surveyed.proofs.put_survey.Statement.{statement}
-use Rattle.surveyed.proofs.put_survey.Tie as tie
+use Rattle.line.specs.Put.{replacedCell}
+use Rattle.line.proofs.Surveys.{concentration-is, flow-is}
+use Rattle.line.proofs.surveyed.put_survey.Statement.{statement}
+use Rattle.line.proofs.surveyed.put_survey.Tie as tie
 
 returns : tie.Need-returns
 returns c =

@@ -12,7 +12,7 @@ use Rattle.reading.specs.declared.FlaggedPair.{FlaggedPair}
 use Rattle.reading.specs.Reading.{flaggedPair, flaggedHour}
 use Rattle.rules.specs.Hours.{measuredOf}
 use Rattle.rules.specs.declared.Survey.{Survey}
-use Rattle.surveyed.specs.Put.{replacedCell, surveyC, surveyL, beats}
+use Rattle.line.specs.Put.{replacedCell, surveyC, surveyL, beats}
 
 module _ (t : Survey) (r : FlaggedPair) (e : r ≡ flaggedHour (measuredOf (t .pair))) where
   pub concentration-is : r .concentration ≡ surveyC t

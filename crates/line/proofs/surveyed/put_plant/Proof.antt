@@ -1,9 +1,9 @@
--- `surveyed::put_plant` meets its contract: beaten by an enforcement survey, or put in. Assumes nothing.
+-- `line::surveyed::put_plant` meets its contract: beaten by an enforcement survey, or put in. Assumes nothing.
 use borrow.Author.Needs.{needs}
 use mathlib.Core.Path.{refl, sym, _∙_}
 use Rattle.law.proofs.Tests.{pick-true, pick-false}
-use Rattle.surveyed.proofs.put_plant.Statement.{statement}
-use Rattle.surveyed.proofs.put_plant.Tie as tie
+use Rattle.line.proofs.surveyed.put_plant.Statement.{statement}
+use Rattle.line.proofs.surveyed.put_plant.Tie as tie
 
 returns : tie.Need-returns
 returns c =
