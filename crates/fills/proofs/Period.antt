@@ -33,8 +33,9 @@ pub states-are : (runs measured : List ℕ) (days : ℕ) (cells st cs cs' : List
 states-are runs measured days cells st cs cs' l s q = q ∙ ap (λ (t : List ℕ). filledCells t cs) (states-part runs measured days cells st l s)
 
 -- a line that lacks no hour is as if filled
-pub whole-line : (runs measured : List ℕ) (days : ℕ) (cells : List ℕ) → firstMissing runs measured days ≡ 0 → cells ≡ filledCells (periodStates runs measured days) cells
-whole-line runs measured days cells w = sym (no-gap (periodStates runs measured days) cells (λ k l. no-missing-table runs measured days w k))
+pub whole-line : (runs measured : List ℕ) (days : ℕ) (cells : List ℕ) → 24 * days ≤ length cells → firstMissing runs measured days ≡ 0 → cells ≡ filledCells (periodStates runs measured days) cells
+whole-line runs measured days cells l w =
+    sym (no-gap (periodStates runs measured days) cells (omega (arith, table-length (stateAt runs measured) (24 * days))) (λ k m. no-missing-table runs measured days w k))
 
 -- the code's test
 pub guard-is : (method days both room : ℕ) (conc flow : List ℕ) → both ≡ min (length conc) (length flow) → room ≡ min 2_208 both → (eqb method 1 && leb (24 * days) room) ≡ isFilled method days conc flow

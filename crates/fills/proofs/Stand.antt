@@ -11,16 +11,15 @@ use lib.ListN.{length, getD, take, drop, length-drop}
 use lib.Seq.{take-all, take-suc, drop-drop, getD-drop}
 use lib.Dec.{eqb}
 use borrow.Author.Tests.{eqb-true}
-use Rattle.law.specs.Words.{pick, table, over}
+use Rattle.law.specs.Words.{pick, over}
 use Rattle.law.proofs.Tests.{pick-not-eq}
 use Rattle.law.proofs.Over.{over-none, over-skip, over-back, over-part, part-back, length-over}
-use Rattle.law.proofs.Tables.{table-length}
 use Rattle.rules.specs.Slots.{Slot, valid, stopped, run, valids}
 use Rattle.rules.specs.Fill.{fill, meanUp, same}
-use Rattle.fills.specs.Gaps.{slotAt, row, slotsIn, fillAt, cellAt, filledCells}
+use Rattle.fills.specs.Gaps.{row, fillAt, cellAt, filledCells}
 use Rattle.fills.specs.Parts.{Scanned, Measured, spot, patched}
 use Rattle.fills.proofs.Neighbours.{before, from, Empty, run-before, valids-before, valids-from, none-before, alike, fill-alike}
-use Rattle.fills.proofs.States.{hours-all, in-row, at-valid, at-missing, at-stopped, at-empty}
+use Rattle.fills.proofs.States.{row-length, in-row, at-valid, at-missing, at-stopped, at-empty}
 
 -- a part lent from hour i to the end
 part-whole : (i : ℕ) (xs : List ℕ) → take (length xs - i) (drop i xs) ≡ drop i xs
@@ -34,24 +33,13 @@ part-filled states values ys v i next e =
     part-back _ values ys i (next - i)
     (e ∙ ap₂ (λ (t u : List ℕ). over (spot t v u) (next - i) (take (length values - i) (drop i values))) (part-whole i states) (part-whole i values))
 
--- what a cell holds afterwards
-abbrev pub cell : List ℕ → List ℕ → ℕ → ℕ
-cell states values k = spot states (fillAt (row states values) k) values k
-
--- the cells of all hours, where each has a cell and there are no more than a quarter has
-pub cells-filled : (states values : List ℕ) → length states ≤ 2_208 → length states ≤ length values
-    → over (cell states values) (length states) values ≡ filledCells states values
-unfolding slotsIn cellAt filledCells
-cells-filled states values m l =
-    ap (λ (n : ℕ). over (λ (k : ℕ). spot states (fillAt (table (slotAt states values) n) k) values k) n values) (sym (hours-all states values l m))
-
 module _ (states values₀ kept : List ℕ) where
   -- at hour i the cells before it are done, b of the valid values stand before it, and if it is not valid, no gap has begun
   pub record Stand (values : List ℕ) (b i : ℕ) : Type 0 where
     pub in-values : length states ≤ length values₀
     pub in-hours : i ≤ length states
     pub size : length values ≡ length values₀
-    pub done : values ≡ over (cell states values₀) i values₀
+    pub done : values ≡ over (cellAt states values₀) i values₀
     pub earlier : reverse (take b kept) ≡ valids (before (row states values₀) i)
     pub later : drop b kept ≡ valids (from (row states values₀) i)
     pub fresh : i < length states → (getD states i 0 ≡ 2 → ⊥) → run (before (row states values₀) i) ≡ 0
@@ -71,19 +59,21 @@ module _ (states values₀ kept : List ℕ) where
         in-values = m;
         in-hours = omega arith;
         size = refl;
-        done = over-none (cell states values₀) values₀;
+        done = over-none (cellAt states values₀) values₀;
         earlier = sym (none-before slots .1);
         later = e;
         fresh = λ l p. none-before slots .0;
       }
 
-  pub stand-end : (values : List ℕ) (b i : ℕ) → length states ≤ 2_208 → length states ≤ i → Stand states values₀ kept values b i → values ≡ filledCells states values₀
-  stand-end values b i m l s =
+  pub stand-end : (values : List ℕ) (b i : ℕ) → length states ≤ i → Stand states values₀ kept values b i → values ≡ filledCells states values₀
+  unfolding filledCells
+  stand-end values b i l s =
       let e : i ≡ length states = omega arith in
-      s .done ∙ ap (λ (k : ℕ). over (cell states values₀) k values₀) e ∙ cells-filled states values₀ m (s .in-values)
+      s .done ∙ ap (λ (k : ℕ). over (cellAt states values₀) k values₀) e
 
   -- a cell that is not missing stays
-  kept-cell : (i : ℕ) → (getD states i 0 ≡ 1 → ⊥) → cell states values₀ i ≡ getD values₀ i 0
+  kept-cell : (i : ℕ) → (getD states i 0 ≡ 1 → ⊥) → cellAt states values₀ i ≡ getD values₀ i 0
+  unfolding cellAt
   kept-cell i m = sym (pick-not-eq _ _ _ _ _ m refl)
 
   module _ (values : List ℕ) (b i : ℕ) (l : i < length states) (s : Stand states values₀ kept values b i) where
@@ -100,7 +90,7 @@ module _ (states values₀ kept : List ℕ) where
           in-values = s .in-values;
           in-hours = omega arith;
           size = s .size;
-          done = s .done ∙ over-skip (cell states values₀) i values₀ (omega arith) (kept-cell i (λ f. omega arith));
+          done = s .done ∙ over-skip (cellAt states values₀) i values₀ (omega arith) (kept-cell i (λ f. omega arith));
           earlier =
               ap (λ (k : ℕ). reverse (take k kept)) (next ∙ add-one b)
               ∙ ap reverse (take-suc kept b 0 more)
@@ -119,7 +109,7 @@ module _ (states values₀ kept : List ℕ) where
           in-values = s .in-values;
           in-hours = omega arith;
           size = s .size;
-          done = s .done ∙ over-skip (cell states values₀) i values₀ (omega arith) (kept-cell i p);
+          done = s .done ∙ over-skip (cellAt states values₀) i values₀ (omega arith) (kept-cell i p);
           earlier = ap (λ (k : ℕ). reverse (take k kept)) same-b ∙ s .earlier ∙ sym (valids-before slots i stopped r slot);
           later = ap (λ (k : ℕ). drop k kept) same-b ∙ s .later ∙ valids-from slots i stopped r slot;
           fresh = λ m f. run-before slots i stopped r slot ∙ s .fresh l q;
@@ -132,7 +122,7 @@ module _ (states values₀ kept : List ℕ) where
 
       part-values : (k : ℕ) → getD (drop i values) k 0 ≡ getD values₀ (i + k) 0
       part-values k =
-          ap (λ (t : List ℕ). getD t k 0) (ap (drop i) (s .done) ∙ over-back (cell states values₀) i values₀) ∙ getD-drop i values₀ k 0
+          ap (λ (t : List ℕ). getD t k 0) (ap (drop i) (s .done) ∙ over-back (cellAt states values₀) i values₀) ∙ getD-drop i values₀ k 0
 
       empties : (d : ℕ) → i + d ≤ next → (k : ℕ) → i ≤ k → k < i + d → Empty slots k
       empties d m k p q = at-empty states values₀ k (omega (arith, g .ends)) (g .passes k (let h : k < next = omega arith in h) p)
@@ -147,7 +137,8 @@ module _ (states values₀ kept : List ℕ) where
           ∙ ap (λ (z : ℕ). fill meanUp same z (valids (before slots i)) (valids (from slots i))) (let z : gap ≡ run (before slots i) + run (from slots i) = omega arith in z)
           ∙ sym (fill-alike slots (i + k) i r (at-missing states values₀ (i + k) here f) (alike slots i k (omega arith) (empties k (omega arith))))
 
-      part-cell : (k : ℕ) → k < next - i → spot (drop i states) v (drop i values) k ≡ cell states values₀ (i + k)
+      part-cell : (k : ℕ) → k < next - i → spot (drop i states) v (drop i values) k ≡ cellAt states values₀ (i + k)
+      unfolding cellAt
       part-cell k m =
           ap₂ (λ (x y : ℕ). pick (eqb x 1) v y) (getD-drop i states k 0) (part-values k)
           ∙ pick-same (eqb (getD states (i + k) 0) 1) v (fillAt slots (i + k)) (getD values₀ (i + k) 0) (λ t. gap-fill k (omega arith) (eqb-true (getD states (i + k) 0) 1 t))
@@ -156,15 +147,15 @@ module _ (states values₀ kept : List ℕ) where
       stand-gap ys p b' same-b =
           let to : i + (next - i) ≡ next = omega (arith, g .begins) in
           let far : next ≤ length states = g .ends in
-          let size = table-length (slotAt states values₀) (length states) in
+          let size = row-length states values₀ in
           let f = spot (drop i states) v (drop i values) in
-          let done : ys ≡ over (cell states values₀) next values₀ =
-          p ∙ sym (part-back f values _ i (next - i) refl) ∙ over-part (cell states values₀) f values _ values₀ i (next - i) (s .done) (omega arith) (s .size) refl part-cell ∙ ap (λ (k : ℕ). over (cell states values₀) k values₀) to in
+          let done : ys ≡ over (cellAt states values₀) next values₀ =
+          p ∙ sym (part-back f values _ i (next - i) refl) ∙ over-part (cellAt states values₀) f values _ values₀ i (next - i) (s .done) (omega arith) (s .size) refl part-cell ∙ ap (λ (k : ℕ). over (cellAt states values₀) k values₀) to in
           let a = alike slots i (next - i) (omega arith) (empties (next - i) (omega arith)) in
           record {
             in-values = s .in-values;
             in-hours = far;
-            size = ap length done ∙ length-over (cell states values₀) next values₀ (omega arith);
+            size = ap length done ∙ length-over (cellAt states values₀) next values₀ (omega arith);
             done = done;
             earlier = ap (λ (k : ℕ). reverse (take k kept)) same-b ∙ s .earlier ∙ sym (a .1) ∙ ap (λ (k : ℕ). valids (before slots k)) to;
             later = ap (λ (k : ℕ). drop k kept) same-b ∙ s .later ∙ sym (a .2) ∙ ap (λ (k : ℕ). valids (from slots k)) to;

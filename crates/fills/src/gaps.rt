@@ -49,7 +49,7 @@ fn fill_one(states: &[u8], values: &mut [u32], kept: &[u32], first: usize, b: us
 
 // Every gap, from the first hour on: of the hours before `i`, `empty` are not measured.
 fn walk(states: &[u8], concentrations: &mut [u32], flows: &mut [u32], cs: &[u32], ls: &[u32])
-    requires { ⌜ (length (now states) ≤ 2208) × (length (now states) ≤ length (now concentrations)) × (length (now states) ≤ length (now flows)) × (now cs ≡ valids (row (now states) (now concentrations))) × (now ls ≡ valids (row (now states) (now flows))) ⌝ }
+    requires { ⌜ (length (now states) ≤ length (now concentrations)) × (length (now states) ≤ length (now flows)) × (now cs ≡ valids (row (now states) (now concentrations))) × (now ls ≡ valids (row (now states) (now flows))) ⌝ }
     ensures { λ _. ⌜ (now (concentrations .exit) ≡ filledCells (now (states .entry)) (now (concentrations .entry))) × (now (flows .exit) ≡ filledCells (now (states .entry)) (now (flows .entry))) ⌝ }
 {
     let mut empty: usize = 0;

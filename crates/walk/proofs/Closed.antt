@@ -26,9 +26,8 @@ use Rattle.walk.specs.Views.{afterEnd}
 use Rattle.rules.specs.Judge.{fine}
 use Rattle.law.proofs.Tables.{table-length}
 use Rattle.hours.specs.States.{stateAt}
-use Rattle.fills.specs.Gaps.{hoursIn, filledCells}
+use Rattle.fills.specs.Gaps.{filledCells}
 use Rattle.fills.specs.Weights.{products}
-use Rattle.fills.proofs.States.{hours-all}
 use Rattle.fills.proofs.Bounds.{largest-each, filled-most, products-most}
 use Rattle.walk.specs.Closing.{Limits, periodWeight, lineGrams, LineGrams, withGrams}
 
@@ -43,11 +42,10 @@ module _ (runs measured : List ℕ) (days : ℕ) (few : days ≤ 92) where
   filled-largest : (M : ℕ) (cells : List ℕ) → length cells ≡ 2_208 → ((h : ℕ) → getD cells h 0 ≤ M) → largest (take (24 * days) (filledCells (periodStates runs measured days) cells)) ≤ M
   filled-largest M cells e m =
       let states = periodStates runs measured days in
-      let all : hoursIn states cells ≡ 24 * days = hours-all states cells (omega (arith, states-length)) (omega (arith, states-length)) ∙ states-length in
       largest-each M (take (24 * days) (filledCells states cells))
       (λ k l.
       let i : k < 24 * days = omega (arith, simp length-take at l) in
-      subst (λ (v : ℕ). v ≤ M) (sym (getD-take (24 * days) (filledCells states cells) k 0 i)) (filled-most M states cells (λ j t. m j) k (omega arith)))
+      subst (λ (v : ℕ). v ≤ M) (sym (getD-take (24 * days) (filledCells states cells) k 0 i)) (filled-most M states cells (λ j t. m j) k (omega (arith, states-length))))
 
   pub period-products : (conc flow : List ℕ) → length conc ≡ 2_208 → length flow ≡ 2_208 → Limits conc flow
       → products (take (24 * days) (filledCells (periodStates runs measured days) conc)) (take (24 * days) (filledCells (periodStates runs measured days) flow)) ≤ 11_040_000_000_000_000

@@ -29,7 +29,9 @@ returns-2 c =
     let on = sym (guard-is _ _ _ _ _ _ (both .before .lesser .ensures) (both .lesser2 .ensures)) ∙ t .if1 .taken in
     let first = both .before .before .first-missing .ensures in
     let w = sym first ∙ c .if2 .left in
-    (first, pick-true _ _ _ _ on (whole-line _ _ _ _ w), pick-true _ _ _ _ on (whole-line _ _ _ _ w))
+    let a = both .before .before .before .before .before .before .before .args in
+    let p = filled-fits (a .method) (a .days) (now (a .conc)) (now (a .flow)) on in
+    (first, pick-true _ _ _ _ on (whole-line _ _ _ _ (p .1) w), pick-true _ _ _ _ on (whole-line _ _ _ _ (p .2) w))
 
 returns-3 : tie.Need-returns-3
 returns-3 c =

@@ -41,7 +41,7 @@ walk-requires c κs =
     let g = c .before .before .before .before .before .before .before .before in
     let e = g .gather .ensures in
     let p = g .before .before .before .before .before .before .before .before .pre in
-    (p .0, p .1, p .2, ap (λ (k : ℕ). take k (g .gather .last .1 .1 .1 .0)) (sub-zero (g .gather .result)) ∙ e .1, ap (λ (k : ℕ). take k (g .gather .last .1 .1 .1 .1 .0)) (sub-zero (g .gather .result)) ∙ e .2)
+    (p .1, p .2, ap (λ (k : ℕ). take k (g .gather .last .1 .1 .1 .0)) (sub-zero (g .gather .result)) ∙ e .1, ap (λ (k : ℕ). take k (g .gather .last .1 .1 .1 .1 .0)) (sub-zero (g .gather .result)) ∙ e .2)
 
 same-length : tie.Need-same-length
 same-length c = search needs

@@ -18,7 +18,7 @@ abbrev μ-loop : tie.MeasureT-loop
 loop-holds : tie.Need-loop-holds Inv-loop μ-loop
 loop-holds c =
     let p = c .before .before .before .before .before .pre in
-    (search needs, stand-start _ _ _ (p .1) (p .3), stand-start _ _ _ (p .2) (p .4))
+    (search needs, stand-start _ _ _ (p .0) (p .2), stand-start _ _ _ (p .1) (p .3))
 
 shared-slice-read-s : tie.Need-shared-slice-read-s Inv-loop μ-loop
 shared-slice-read-s c = search needs
@@ -115,8 +115,7 @@ same-length-2 c = search needs
 returns : tie.Need-returns Inv-loop μ-loop
 returns c =
     let l = c .before .loop in
-    let few = c .before .before .before .before .before .before .before .pre .0 in
-    (stand-end _ _ _ _ _ (l .i) few (c .loop-test .left) (l .inv .1), stand-end _ _ _ _ _ (l .i) few (c .loop-test .left) (l .inv .2))
+    (stand-end _ _ _ _ _ (l .i) (c .loop-test .left) (l .inv .1), stand-end _ _ _ _ _ (l .i) (c .loop-test .left) (l .inv .2))
 
 pub walk-spec : {M : Type 1} → statement M
 walk-spec =
