@@ -1,6 +1,5 @@
 -- Where the walk over a line's hours stands in one quantity, and what a turn of it does: an hour that is valid, one that is stopped, and a gap. Assumes nothing.
 use mathlib.Core.Path.{_≡_, refl, _∙_, sym, ap, ap₂, subst}
-use mathlib.Core.Bool.{Bool, true, false}
 use mathlib.Core.Logic.{⊎-elim}
 use mathlib.Core.List.{List, [], _∷_, _++_, reverse, reverse-append}
 use Prim.Native.Nat.{ℕ, zero, suc, _+_, _-_, _<_, _≤_}
@@ -12,7 +11,7 @@ use lib.Seq.{take-all, take-suc, drop-drop, getD-drop}
 use lib.Dec.{eqb}
 use borrow.Author.Tests.{eqb-true}
 use Rattle.law.specs.Words.{pick, over}
-use Rattle.law.proofs.Tests.{pick-not-eq}
+use Rattle.law.proofs.Tests.{pick-not-eq, pick-same}
 use Rattle.law.proofs.Over.{over-none, over-skip, over-back, over-part, part-back, length-over}
 use Rattle.rules.specs.Slots.{Slot, valid, stopped, run, valids}
 use Rattle.rules.specs.Fill.{fill, meanUp, same}
@@ -43,11 +42,6 @@ module _ (states values₀ kept : List ℕ) where
     pub earlier : reverse (take b kept) ≡ valids (before (row states values₀) i)
     pub later : drop b kept ≡ valids (from (row states values₀) i)
     pub fresh : i < length states → (getD states i 0 ≡ 2 → ⊥) → run (before (row states values₀) i) ≡ 0
-
-pick-same : (t : Bool) (v w x : ℕ) → (t ≡ true → v ≡ w) → pick t v x ≡ pick t w x
-unfolding pick
-pick-same true v w x h = h refl
-pick-same false v w x h = refl
 
 module _ (states values₀ kept : List ℕ) where
   abbrev slots : List (Slot ℕ)
