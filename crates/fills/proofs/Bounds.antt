@@ -13,9 +13,9 @@ use Rattle.law.proofs.Tables.{table-at}
 use Rattle.rules.specs.Slots.{Slot, valid, missing, stopped, valids, entry}
 use Rattle.gap.proofs.Largest.{largest-append}
 use Rattle.gap.proofs.Bounds.{fill-most}
-use Rattle.fills.specs.Gaps.{slotAt, hoursIn, slotsIn, fillAt, cellAt, filledCells}
+use Rattle.fills.specs.Gaps.{slotAt, row, fillAt, cellAt, filledCells}
 use Rattle.fills.specs.Weights.{products}
-use Rattle.fills.proofs.States.{slots-length, slot-holds}
+use Rattle.fills.proofs.States.{row-length, slot-holds}
 use Rattle.fills.proofs.Filled.{filled-at}
 
 -- ---- a list keeps a limit where each of it does
@@ -62,14 +62,14 @@ module _ (M : ℕ) where
       fill-most M _ _ _ (omega (arith, most-reverse (take h slots), split h)) (omega (arith, split (h + 1)))
 
   -- ---- every cell, where every cell kept the limit
-  pub filled-most : (states values : List ℕ) → ((k : ℕ) → k < hoursIn states values → getD values k 0 ≤ M)
-      → (k : ℕ) → k < hoursIn states values → getD (filledCells states values) k 0 ≤ M
-  unfolding cellAt slotsIn
+  pub filled-most : (states values : List ℕ) → ((k : ℕ) → k < length states → getD values k 0 ≤ M)
+      → (k : ℕ) → k < length states → getD (filledCells states values) k 0 ≤ M
+  unfolding cellAt
   filled-most states values p k l =
-      let valid-most : largest (valids (slotsIn states values)) ≤ M =
-      valids-each (slotsIn states values) (λ h v m e. let i : h < hoursIn states values = omega (arith, slots-length states values) in subst (λ (x : ℕ). x ≤ M) (sym (slot-holds states values h v (sym (table-at (slotAt states values) (hoursIn states values) h stopped i) ∙ e))) (p h i)) in
+      let valid-most : largest (valids (row states values)) ≤ M =
+      valids-each (row states values) (λ h v m e. let i : h < length states = omega (arith, row-length states values) in subst (λ (x : ℕ). x ≤ M) (sym (slot-holds states values h v (sym (table-at (slotAt states values) (length states) h stopped i) ∙ e))) (p h i)) in
       subst (λ (x : ℕ). x ≤ M) (sym (filled-at states values k l))
-      (pick-case (λ (v : ℕ). v ≤ M) (eqb (getD states k 0) 1) _ _ (λ t. fillAt-most (slotsIn states values) k valid-most) (λ t. p k l))
+      (pick-case (λ (v : ℕ). v ≤ M) (eqb (getD states k 0) 1) _ _ (λ t. fillAt-most (row states values) k valid-most) (λ t. p k l))
 
 -- ---- sums of products, over the limits of both quantities
 module _ (M N : ℕ) where

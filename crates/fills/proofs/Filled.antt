@@ -1,11 +1,11 @@
--- What `fill_gaps` leaves in the slice is what the rule says of every hour, and nothing behind the hours is touched. Assumes nothing.
+-- What the fills leave in a slice is what the rule says of every hour, and nothing behind the hours is touched. Assumes nothing.
 use mathlib.Core.Path.{_≡_, refl, _∙_, sym, ap}
 use mathlib.Core.Bool.{Bool, true, false}
 use mathlib.Core.List.{List, [], reverse}
-use Prim.Native.Nat.{ℕ, _+_, _<_, _≤_}
+use Prim.Native.Nat.{ℕ, _+_, _<_}
 use native.Mathlib.Omega.{arith}
 use lib.ListN.{length, getD, take, drop, List·getD-append}
-use lib.Seq.{take-at, take-length}
+use lib.Seq.{take-at}
 use lib.Dec.{eqb}
 use borrow.Author.Tests.{eqb-true, eqb-false}
 use Rattle.law.specs.Words.{table}
@@ -14,34 +14,28 @@ use Rattle.law.proofs.Over.{over-back}
 use Rattle.law.proofs.Tables.{table-length, table-at, table-is}
 use Rattle.rules.specs.Slots.{Slot, missing, stopped, entry, entries}
 use Rattle.rules.specs.Fill.{fill, meanUp, same}
-use Rattle.fills.specs.Gaps.{slotAt, hoursIn, hoursInBoth, slotsIn, fillAt, cellAt, filledCells}
+use Rattle.fills.specs.Gaps.{slotAt, row, fillAt, cellAt, filledCells}
 use Rattle.fills.proofs.Entries.{entries-length, line-at}
-use Rattle.fills.proofs.States.{hours-all, hours-all-both, slots-length, slot-valid, slot-missing, slot-stopped}
-
--- both quantities are filled as each by itself, where every hour that has a state has both cells
-pub filled-both : (states concentrations flows values : List ℕ) → length states ≤ length concentrations → length states ≤ length flows → length states ≤ 2_208
-    → filledCells (take (hoursInBoth states concentrations flows) states) values ≡ filledCells states values
-filled-both states concentrations flows values c l m =
-    ap (λ (s : List ℕ). filledCells s values) (ap (λ (k : ℕ). take k states) (hours-all-both states concentrations flows c l m) ∙ take-length states)
+use Rattle.fills.proofs.States.{row-length, slot-valid, slot-missing, slot-stopped}
 
 module _ (states values : List ℕ) where
   abbrev n : ℕ
-  n = hoursIn states values
+  n = length states
 
-  pub filled-at : (h : ℕ) → h < hoursIn states values → getD (filledCells states values) h 0 ≡ cellAt states values h
+  pub filled-at : (h : ℕ) → h < length states → getD (filledCells states values) h 0 ≡ cellAt states values h
   unfolding filledCells
   filled-at h l =
       List·getD-append (table (cellAt states values) n) (drop n values) 0 h (let m : h < length (table (cellAt states values) n) = omega (arith, table-length (cellAt states values) n) in m)
       ∙ table-at (cellAt states values) n h 0 l
 
   -- cells behind the hours stay
-  pub filled-rest : drop (hoursIn states values) (filledCells states values) ≡ drop (hoursIn states values) values
+  pub filled-rest : drop (length states) (filledCells states values) ≡ drop (length states) values
   unfolding filledCells
   filled-rest = over-back (cellAt states values) n values
 
   -- the cell of an hour is its entry, and a stopped hour's cell is nothing
-  module _ (still : (h : ℕ) → h < hoursIn states values → slotAt states values h ≡ stopped → getD values h 0 ≡ 0) where
-    module _ (h : ℕ) (l : h < hoursIn states values) (before after : List (Slot ℕ)) (e : fillAt (slotsIn states values) h ≡ entry (λ v. v) (fill meanUp same) 0 before missing after) where
+  module _ (still : (h : ℕ) → h < length states → slotAt states values h ≡ stopped → getD values h 0 ≡ 0) where
+    module _ (h : ℕ) (l : h < length states) (before after : List (Slot ℕ)) (e : fillAt (row states values) h ≡ entry (λ v. v) (fill meanUp same) 0 before missing after) where
       cell-by : (t u : Bool) → eqb (getD states h 0) 2 ≡ t → eqb (getD states h 0) 1 ≡ u
           → cellAt states values h ≡ entry (λ v. v) (fill meanUp same) 0 before (slotAt states values h) after
       unfolding cellAt entry
@@ -58,22 +52,17 @@ module _ (states values : List ℕ) where
           sym (pick-not-eq _ _ _ _ _ (eqb-false (getD states h 0) 1 q) (sym (still h l s)))
           ∙ ap (λ (x : Slot ℕ). entry (λ v. v) (fill meanUp same) 0 before x after) (sym s)
 
-    entry-cell : (h : ℕ) → h < hoursIn states values → getD (entries (λ v. v) (fill meanUp same) 0 [] (slotsIn states values)) h 0 ≡ cellAt states values h
-    unfolding fillAt slotsIn
+    entry-cell : (h : ℕ) → h < length states → getD (entries (λ v. v) (fill meanUp same) 0 [] (row states values)) h 0 ≡ cellAt states values h
+    unfolding fillAt
     entry-cell h l =
-        let slots = slotsIn states values in
-        line-at (λ v. v) (fill meanUp same) 0 slots h 0 (omega (arith, slots-length states values))
+        let slots = row states values in
+        line-at (λ v. v) (fill meanUp same) 0 slots h 0 (omega (arith, row-length states values))
         ∙ ap (λ (x : Slot ℕ). entry (λ v. v) (fill meanUp same) 0 (reverse (take h slots)) x (drop (h + 1) slots)) (table-at (slotAt states values) n h stopped l)
         ∙ sym (cell-by h l (reverse (take h slots)) (drop (h + 1) slots) refl (eqb (getD states h 0) 2) (eqb (getD states h 0) 1) refl refl)
 
-    pub filled-is-entries : take (hoursIn states values) (filledCells states values) ≡ entries (λ v. v) (fill meanUp same) 0 [] (slotsIn states values)
+    pub filled-line : take (length states) (filledCells states values) ≡ entries (λ v. v) (fill meanUp same) 0 [] (row states values)
     unfolding filledCells
-    filled-is-entries =
+    filled-line =
         let size : length (table (cellAt states values) n) ≡ n = table-length (cellAt states values) n in
         take-at (table (cellAt states values) n) (drop n values) n size
-        ∙ sym (table-is (cellAt states values) n 0 _ (entries-length (λ v. v) (fill meanUp same) 0 [] (slotsIn states values) ∙ slots-length states values) (λ h l. entry-cell h l))
-
-    -- where every hour that has a state is looked at
-    pub filled-line : length states ≤ length values → length states ≤ 2_208
-        → take (length states) (filledCells states values) ≡ entries (λ v. v) (fill meanUp same) 0 [] (slotsIn states values)
-    filled-line l m = ap (λ (k : ℕ). take k (filledCells states values)) (sym (hours-all states values l m)) ∙ filled-is-entries
+        ∙ sym (table-is (cellAt states values) n 0 _ (entries-length (λ v. v) (fill meanUp same) 0 [] (row states values) ∙ row-length states values) (λ h l. entry-cell h l))

@@ -6,5 +6,9 @@ pub mod Entries
 pub mod Alone
 pub mod Filled
 pub mod Bounds
-pub mod Only
 pub mod Whole
+pub mod Gathered
+pub mod Scans
+pub mod Stand
+pub mod Period
+pub mod Only

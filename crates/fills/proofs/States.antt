@@ -12,23 +12,12 @@ use Rattle.law.specs.Words.{pick}
 use Rattle.law.proofs.Tests.{pick-eq, pick-not-eq}
 use Rattle.law.proofs.Tables.{table-length, table-at}
 use Rattle.rules.specs.Slots.{valid, missing, stopped, run, valids}
-use Rattle.fills.specs.Gaps.{slotAt, row, hoursIn, hoursInBoth, slotsIn}
+use Rattle.fills.specs.Gaps.{slotAt, row}
 use Rattle.fills.proofs.Neighbours.{At, Empty, from, run-from, run-end, valids-from, valids-end, alike-step}
 
--- all hours that have a state are looked at, where each has a cell and there are no more than a quarter has
-pub hours-all : (states values : List ℕ) → length states ≤ length values → length states ≤ 2_208 → hoursIn states values ≡ length states
-unfolding hoursIn
-hours-all states values l m = omega arith
-
-pub hours-all-both : (states concentrations flows : List ℕ) → length states ≤ length concentrations → length states ≤ length flows → length states ≤ 2_208
-    → hoursInBoth states concentrations flows ≡ length states
-unfolding hoursInBoth
-hours-all-both states concentrations flows c l m = omega arith
-
 module _ (states values : List ℕ) where
-  pub slots-length : length (slotsIn states values) ≡ hoursIn states values
-  unfolding slotsIn
-  slots-length = table-length (slotAt states values) (hoursIn states values)
+  pub row-length : length (row states values) ≡ length states
+  row-length = table-length (slotAt states values) (length states)
 
   module _ (k : ℕ) where
     pub slot-valid : getD states k 0 ≡ 2 → slotAt states values k ≡ valid (getD values k 0)
@@ -57,14 +46,14 @@ module _ (states values : List ℕ) where
   module _ (k : ℕ) where
     -- the row's end
     pub run-none : length states ≤ k → run (from (row states values) k) ≡ 0
-    run-none l = run-end (row states values) k (omega (arith, table-length (slotAt states values) (length states)))
+    run-none l = run-end (row states values) k (omega (arith, row-length))
 
     pub valids-none : length states ≤ k → valids (from (row states values) k) ≡ []
-    valids-none l = valids-end (row states values) k (omega (arith, table-length (slotAt states values) (length states)))
+    valids-none l = valids-end (row states values) k (omega (arith, row-length))
 
     module _ (l : k < length states) where
       pub in-row : k < length (row states values)
-      in-row = omega (arith, table-length (slotAt states values) (length states))
+      in-row = omega (arith, row-length)
 
       -- hour k in the row
       pub at-slot : At (row states values) k (slotAt states values k)

@@ -1,5 +1,5 @@
 -- "A gap's fill is written only into that gap's hours": what a work slice holds after its gaps are filled.
-use Prim.Native.Nat.{ℕ, _+_, min}
+use Prim.Native.Nat.{ℕ, _+_}
 use mathlib.Core.List.{List, reverse}
 use lib.ListN.{length, getD, take, drop}
 use lib.Dec.{eqb}
@@ -11,21 +11,9 @@ use Rattle.rules.specs.Fill.{fill, meanUp, same}
 unfoldable pub slotAt : List ℕ → List ℕ → ℕ → Slot ℕ
 slotAt states values h = pick (eqb (getD states h 0) 2) (valid (getD values h 0)) (pick (eqb (getD states h 0) 1) missing stopped)
 
--- every hour that has a state, in a row
+-- all hours in a row
 abbrev pub row : List ℕ → List ℕ → List (Slot ℕ)
 row states values = table (slotAt states values) (length states)
-
--- the hours that have a state and a cell of one quantity, and no more than a quarter has
-unfoldable pub hoursIn : List ℕ → List ℕ → ℕ
-hoursIn states values = min (min (length states) (length values)) 2_208
-
--- the hours that have a state and both cells, and no more than a quarter has
-unfoldable pub hoursInBoth : List ℕ → List ℕ → List ℕ → ℕ
-hoursInBoth states concentrations flows = min (min (min (length states) (length concentrations)) (length flows)) 2_208
-
--- those hours in a row
-unfoldable pub slotsIn : List ℕ → List ℕ → List (Slot ℕ)
-slotsIn states values = table (slotAt states values) (hoursIn states values)
 
 -- the fill of hour h, a missing one: the rule looks both ways from it, nearest first
 unfoldable pub fillAt : List (Slot ℕ) → ℕ → ℕ
@@ -33,8 +21,8 @@ fillAt slots h = entry (λ v. v) (fill meanUp same) 0 (reverse (take h slots)) m
 
 -- a missing hour holds its fill, and any other what it held
 unfoldable pub cellAt : List ℕ → List ℕ → ℕ → ℕ
-cellAt states values h = pick (eqb (getD states h 0) 1) (fillAt (slotsIn states values) h) (getD values h 0)
+cellAt states values h = pick (eqb (getD states h 0) 1) (fillAt (row states values) h) (getD values h 0)
 
--- the slice after its gaps are filled
+-- the slice after its gaps are filled, where each hour has its cell
 unfoldable pub filledCells : List ℕ → List ℕ → List ℕ
-filledCells states values = over (cellAt states values) (hoursIn states values) values
+filledCells states values = over (cellAt states values) (length states) values

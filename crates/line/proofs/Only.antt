@@ -1,11 +1,15 @@
 -- No second answer meets the promise of a public call. Assumes nothing.
-use mathlib.Core.Path.{_≡_}
+use mathlib.Core.Path.{_≡_, _∙_, sym}
+use mathlib.Core.Bool.{Bool}
 use mathlib.Core.List.{List}
 use Prim.Native.Nat.{ℕ, _*_, max}
 use lib.Dec.{eqb}
 use Rattle.law.specs.Words.{need}
+use Rattle.rules.specs.declared.Survey.{Survey}
 use Rattle.rules.specs.declared.View.{View}
+use Rattle.line.specs.declared.surveyed.Weighed.{Weighed}
 use Rattle.line.specs.Line.{gramsOf, rowIn}
+use Rattle.line.specs.Put.{SurveyPut, PlantPut}
 
 pub larger : (a b m n : ℕ) → m ≡ max a b → n ≡ max a b → m ≡ n
 larger a b m n p q = cc
@@ -24,3 +28,11 @@ row-of v method grams first a b p q = cc
 
 pub share : (pollutant own grams a b : ℕ) → a ≡ need 0 (eqb pollutant own) grams → b ≡ need 0 (eqb pollutant own) grams → a ≡ b
 share pollutant own grams a b p q = cc
+
+-- a survey: the answer and both quantities' cells
+module _ (t : Survey) (measured : Bool) (conc flow conc₁ conc₂ flow₁ flow₂ : List ℕ) (a b : Weighed) where
+  pub put-survey : SurveyPut t measured conc flow conc₁ flow₁ a → SurveyPut t measured conc flow conc₂ flow₂ b → (a ≡ b) × (conc₁ ≡ conc₂) × (flow₁ ≡ flow₂)
+  put-survey p q = (p .weighs ∙ sym (q .weighs), p .concentrations ∙ sym (q .concentrations), p .flows ∙ sym (q .flows))
+
+  pub put-plant : (beaten : Bool) → PlantPut t beaten measured conc flow conc₁ flow₁ a → PlantPut t beaten measured conc flow conc₂ flow₂ b → (a ≡ b) × (conc₁ ≡ conc₂) × (flow₁ ≡ flow₂)
+  put-plant beaten p q = (p .weighs ∙ sym (q .weighs), p .concentrations ∙ sym (q .concentrations), p .flows ∙ sym (q .flows))

@@ -1,2 +1,3 @@
--- The figures of a line.
+-- The figures of a line, and a survey put in at its hour.
 pub mod Line
+pub mod Put

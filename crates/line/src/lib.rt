@@ -1,5 +1,10 @@
-// The figures of a line: its hours, the larger sulphur, grams by weighed hours, the row, its share of a total.
+// The figures of a line: its hours, the larger sulphur, grams by weighed hours, the row, its share of a total; a survey put in and weighed.
+mod surveyed;
+
 use rules::View;
+pub use surveyed::Weighed;
+pub use surveyed::put_plant;
+pub use surveyed::put_survey;
 ghost use mathlib.Core.Path.{_≡_};
 ghost use Prim.Native.Nat.{_*_, max};
 ghost use lib.Dec.{eqb};

@@ -16,9 +16,9 @@ use borrow.Author.Tests.{eqb-true, eqb-false}
 use Rattle.rules.specs.declared.View.{View}
 use Rattle.walk.specs.declared.books.Sums.{Sums}
 use Rattle.walk.specs.Taking.{EndReady, EndTaken}
-use Rattle.period.specs.Period.{periodStates, isFilled, periodCells}
+use Rattle.fills.specs.Period.{periodStates, isFilled, periodCells}
 use Rattle.line.specs.Line.{rowIn}
-use Rattle.period.proofs.Filled.{filled-on, filled-off}
+use Rattle.fills.proofs.Period.{filled-on, filled-off}
 use Rattle.line.proofs.Halves.{grams-by}
 use Rattle.walk.specs.declared.take.Taken.{Taken}
 use Rattle.walk.specs.Books.{putFrom, Done}
@@ -26,9 +26,8 @@ use Rattle.walk.specs.Views.{afterEnd}
 use Rattle.rules.specs.Judge.{fine, lineMethod}
 use Rattle.law.proofs.Tables.{table-length}
 use Rattle.hours.specs.States.{stateAt}
-use Rattle.fills.specs.Gaps.{hoursIn, filledCells}
+use Rattle.fills.specs.Gaps.{filledCells}
 use Rattle.fills.specs.Weights.{products}
-use Rattle.fills.proofs.States.{hours-all}
 use Rattle.fills.proofs.Bounds.{largest-each, filled-most, products-most}
 use Rattle.walk.specs.Closing.{Limits, periodWeight, lineGrams, LineGrams, withGrams}
 
@@ -43,11 +42,10 @@ module _ (runs measured : List ℕ) (days : ℕ) (few : days ≤ mostDays) where
   filled-largest : (M : ℕ) (cells : List ℕ) → length cells ≡ mostHours → ((h : ℕ) → getD cells h 0 ≤ M) → largest (take (hoursOfDay * days) (filledCells (periodStates runs measured days) cells)) ≤ M
   filled-largest M cells e m =
       let states = periodStates runs measured days in
-      let all : hoursIn states cells ≡ hoursOfDay * days = hours-all states cells (omega (arith, states-length)) (omega (arith, states-length)) ∙ states-length in
       largest-each M (take (hoursOfDay * days) (filledCells states cells))
       (λ k l.
       let i : k < hoursOfDay * days = omega (arith, simp length-take at l) in
-      subst (λ (v : ℕ). v ≤ M) (sym (getD-take (hoursOfDay * days) (filledCells states cells) k 0 i)) (filled-most M states cells (λ j t. m j) k (omega arith)))
+      subst (λ (v : ℕ). v ≤ M) (sym (getD-take (hoursOfDay * days) (filledCells states cells) k 0 i)) (filled-most M states cells (λ j t. m j) k (omega (arith, states-length))))
 
   pub period-products : (conc flow : List ℕ) → length conc ≡ mostHours → length flow ≡ mostHours → Limits conc flow
       → products (take (hoursOfDay * days) (filledCells (periodStates runs measured days) conc)) (take (hoursOfDay * days) (filledCells (periodStates runs measured days) flow)) ≤ mostHours * mostAmount

@@ -37,7 +37,7 @@ use Rattle.walk.specs.Views.{afterEnd}
 use Rattle.walk.specs.Books.{noRows, putFrom, valuesAt, Open, inOpen, Done, CellsKept, Kept}
 use Rattle.walk.specs.Closing.{gramsIn, periodWeight, LineGrams, withGrams}
 use Rattle.walk.specs.Taking.{EndTaken}
-use Rattle.period.specs.Period.{periodStates}
+use Rattle.fills.specs.Period.{periodStates}
 use Rattle.line.specs.Line.{rowIn}
 use Rattle.rules.specs.Judge.{lineMethod}
 use Rattle.walk.proofs.Views.{survey-count, view-end}

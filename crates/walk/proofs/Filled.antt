@@ -21,10 +21,9 @@ use Rattle.rules.specs.Row.{cells, held}
 use Rattle.hours.specs.States.{stateAt}
 use Rattle.hours.proofs.Days.{length-slots}
 use Rattle.hours.proofs.Laws.{stateIn, slotIn, state-slot}
-use Rattle.fills.specs.Gaps.{slotAt, hoursIn, slotsIn, filledCells}
+use Rattle.fills.specs.Gaps.{slotAt, row, filledCells}
 use Rattle.fills.proofs.Entries.{entries-length, line-at}
 use Rattle.fills.proofs.Filled.{filled-line, filled-rest}
-use Rattle.fills.proofs.States.{hours-all}
 use Rattle.fills.proofs.Alone.{cs-alone, ls-alone}
 use Rattle.walk.specs.Books.{inCell, valuesAt}
 use Rattle.walk.proofs.Hours.{past-zero}
@@ -107,11 +106,8 @@ module _ (x : Line) (few : length (x .days) ≤ 92) (f : Values → ℕ) (zero-f
   abbrev values : List ℕ
   values = lineValues f x
 
-  all-hours : hoursIn states values ≡ N x
-  all-hours =
-      hours-all states values (omega (arith, table-length (stateAt (runMasks (x .days)) (measuredMasks (x .days))) (N x), table-length (λ h. f (valuesAt x h)) 2_208))
-      (omega (arith, table-length (stateAt (runMasks (x .days)) (measuredMasks (x .days))) (N x)))
-      ∙ table-length (stateAt (runMasks (x .days)) (measuredMasks (x .days))) (N x)
+  all-hours : length states ≡ N x
+  all-hours = table-length (stateAt (runMasks (x .days)) (measuredMasks (x .days))) (N x)
 
   slot-is : (h : ℕ) → h < N x → slotAt states values h ≡ mapSlot f (mapSlot valuesOf (slotNow x h))
   unfolding slotAt slotIn valuesAt
@@ -120,14 +116,14 @@ module _ (x : Line) (few : length (x .days) ≤ 92) (f : Values → ℕ) (zero-f
       ∙ ap (λ (s : ℕ). slotIn s (f (inCell (slotNow x h)))) (sym (replaced-state (x .enforcement) (x .plant) h (getD (slotsOf (x .days)) h stopped) ∙ state-slot (x .days) h))
       ∙ sym (slot-by f (slotNow x h))
 
-  slots-are : slotsIn states values ≡ map (mapSlot f) (slots x)
-  unfolding slotsIn mapSlot
+  slots-are : row states values ≡ map (mapSlot f) (slots x)
+  unfolding mapSlot
   slots-are =
       ap (table (slotAt states values)) all-hours
       ∙ sym (table-is (slotAt states values) (N x) stopped (map (mapSlot f) (slots x)) (length-map (slots x) (mapSlot f) ∙ slots-long x)
       (λ h l. List·getD-map (mapSlot f) (slots x) h stopped ∙ ap (mapSlot f) (slots-at x h l) ∙ sym (slot-is h l)))
 
-  still : (h : ℕ) → h < hoursIn states values → slotAt states values h ≡ stopped → getD values h 0 ≡ 0
+  still : (h : ℕ) → h < length states → slotAt states values h ≡ stopped → getD values h 0 ≡ 0
   unfolding valuesAt
   still h l e =
       let m : h < N x = omega (arith, all-hours) in
@@ -146,10 +142,9 @@ module _ (x : Line) (few : length (x .days) ≤ 92) (f : Values → ℕ) (zero-f
   pub filled-cells : (es : List ℕ) → es ≡ entries (λ v. v) (fill meanUp same) 0 [] (map (mapSlot f) (slots x)) → (take (N x) (filledCells states values) ≡ es) × (filledCells states values ≡ cells es)
   unfolding cells
   filled-cells es e =
-      let size : length states ≡ N x = table-length (stateAt (runMasks (x .days)) (measuredMasks (x .days))) (N x) in
       let front : take (N x) (filledCells states values) ≡ es =
-      ap (λ (k : ℕ). take k (filledCells states values)) (sym size)
-      ∙ filled-line states values still (omega (arith, size, table-length (λ h. f (valuesAt x h)) 2_208)) (omega (arith, size))
+      ap (λ (k : ℕ). take k (filledCells states values)) (sym all-hours)
+      ∙ filled-line states values still
       ∙ ap (entries (λ v. v) (fill meanUp same) 0 []) slots-are ∙ sym e in
       let back : drop (N x) (filledCells states values) ≡ replicate (2_208 - N x) 0 =
       ap (λ (k : ℕ). drop k (filledCells states values)) (sym all-hours) ∙ filled-rest states values ∙ ap (λ (k : ℕ). drop k values) all-hours ∙ rest-zero in

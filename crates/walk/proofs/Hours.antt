@@ -20,8 +20,7 @@ use Rattle.rules.specs.Lines.{Line, surveyAt, replaced, hasSurvey}
 use Rattle.rules.specs.Walk.{begun, withDay, withEnforcement, withPlant}
 use Rattle.rules.specs.Fill.{zeroes}
 use Rattle.rules.specs.Grams.{valuesOf}
-use Rattle.bits.specs.State.{stateOf}
-use Rattle.hours.specs.States.{stateAt}
+use Rattle.hours.specs.States.{stateOf, stateAt}
 use Rattle.hours.proofs.Days.{length-slots, slot-past}
 use Rattle.hours.proofs.Laws.{slotIn, pairIs, slot-state, slot-valid}
 use Rattle.walk.specs.Books.{inCell, valuesAt}

@@ -10,9 +10,8 @@ use lib.Dec.{eqb}
 use Rattle.law.specs.Words.{pick, seek}
 use Rattle.law.proofs.Tables.{table-same}
 use Rattle.rules.specs.Hours.{bit, runsAt, lacksAt, firstMissing}
-use Rattle.bits.specs.State.{stateOf}
-use Rattle.hours.specs.States.{stateAt}
-use Rattle.period.specs.Period.{periodStates}
+use Rattle.hours.specs.States.{stateOf, stateAt}
+use Rattle.fills.specs.Period.{periodStates}
 
 mask-kept : (n : ℕ) (masks own : List ℕ) (h : ℕ) → take n masks ≡ own → h < 24 * n → getD masks (h / 24) 0 ≡ getD own (h / 24) 0
 mask-kept n masks own h e l = sym (getD-take n masks (h / 24) 0 (omega arith)) ∙ ap (λ (t : List ℕ). getD t (h / 24) 0) e

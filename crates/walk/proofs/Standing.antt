@@ -33,9 +33,9 @@ use Rattle.walk.specs.Views.{afterHead, afterDay, afterEnforcement, afte
 use Rattle.walk.specs.Books.{putFrom, inCell, flagAt, Open, inOpen, Done, Long, LineBooks, Kept}
 use Rattle.walk.proofs.Cleared.{cleared-all}
 use Rattle.walk.specs.Taking.{HeadTaken, DayTaken, EnforcementTaken, PlantTaken, BatchTaken}
-use Rattle.surveyed.specs.declared.Weighed.{Weighed}
-use Rattle.surveyed.specs.Put.{replacedCell, surveyC, surveyL, standing, nothing, beats}
-use Rattle.surveyed.proofs.Surveyed.{beats-within}
+use Rattle.line.specs.declared.surveyed.Weighed.{Weighed}
+use Rattle.line.specs.Put.{replacedCell, surveyC, surveyL, standing, nothing, beats}
+use Rattle.line.proofs.Surveys.{beats-within}
 use Rattle.walk.proofs.Views.{view-head, view-day, view-enforcement, view-plant, view-batch}
 use Rattle.walk.proofs.Steps.{begun-books, day-books, enforcement-books, beaten-books, plant-books, batch-books}
 

@@ -27,7 +27,7 @@ use Rattle.fuel.specs.Fuel.{ashOf}
 use Rattle.fuel.proofs.Batches.{in-range-none, in-range-more}
 use Rattle.walk.proofs.Cleared.{table-zero}
 use Rattle.walk.specs.declared.books.Sums.{Sums}
-use Rattle.surveyed.specs.Put.{standing}
+use Rattle.line.specs.Put.{standing}
 use Rattle.walk.specs.Views.{openedSums, withSurvey, withFuel}
 use Rattle.walk.specs.Books.{putFrom, inCell, valuesAt, flagAt, Open, inOpen, CellsKept, SurveysKept, LineBooks, Long}
 use Rattle.walk.proofs.Hours.{begun-zero, past-zero, day-before, day-own, enforcement-other, plant-other, plant-second, enforcement-own, plant-own, measured-slot, unmeasured}

@@ -41,7 +41,7 @@ use Rattle.walk.proofs.Masks.{runs-kept, states-kept, first-kept}
 use Rattle.walk.proofs.Steps.{surveyed-most}
 use Rattle.rules.proofs.Method.{manual-surveyed}
 use Rattle.walk.specs.Closing.{gramsIn}
-use Rattle.period.specs.Period.{periodStates}
+use Rattle.fills.specs.Period.{periodStates}
 use Rattle.fuel.specs.Fuel.{fuelFigure, ashOf, InRange}
 use Rattle.fuel.specs.declared.FuelFigure.{FuelFigure}
 use Rattle.fuel.proofs.Figures.{line-figure, line-wanting, grams-fit}

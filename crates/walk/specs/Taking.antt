@@ -12,8 +12,8 @@ use Rattle.rules.specs.declared.Survey.{Survey}
 use Rattle.rules.specs.declared.Batch.{Batch}
 use Rattle.rules.specs.declared.View.{View}
 use Rattle.rules.specs.Records.{dayOf}
-use Rattle.surveyed.specs.declared.Weighed.{Weighed}
-use Rattle.surveyed.specs.Put.{beats, SurveyPut, PlantPut}
+use Rattle.line.specs.declared.surveyed.Weighed.{Weighed}
+use Rattle.line.specs.Put.{beats, SurveyPut, PlantPut}
 use Rattle.line.specs.Line.{rowIn}
 use Rattle.rules.specs.Judge.{fine, judgeHours, lineMethod}
 use Rattle.day.specs.Day.{concentrationAt, flowAt}

@@ -12,7 +12,7 @@ use Rattle.rules.specs.declared.View.{View}
 use Rattle.rules.specs.Hours.{runningOf, missingOf}
 use Rattle.rules.specs.Judge.{refuse, fine, first, key, atPlace}
 use Rattle.rules.specs.Walk.{noHead}
-use Rattle.surveyed.specs.declared.Weighed.{Weighed}
+use Rattle.line.specs.declared.surveyed.Weighed.{Weighed}
 use Rattle.walk.specs.declared.books.Sums.{Sums}
 use Rattle.walk.specs.declared.take.Taken.{Taken}
 use Rattle.walk.specs.declared.turns.Progress.{Progress}

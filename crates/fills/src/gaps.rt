@@ -1,0 +1,87 @@
+// The gaps of a line's two quantities. A state is 2 for a measured hour and 1 for a missing one; with any other the hour is stopped.
+ghost use mathlib.Core.Path.{_≡_};
+ghost use mathlib.Core.List.{reverse};
+ghost use Prim.Native.Nat.{_≤_};
+ghost use lib.ListN.{length, take, drop};
+ghost use Rattle.rules.specs.Slots.{valids};
+ghost use Rattle.rules.specs.Fill.{fill, meanUp, same};
+ghost use Rattle.fills.specs.Gaps.{row, filledCells};
+ghost use Rattle.fills.specs.Parts.{patched};
+use crate::stretch::Gap;
+use crate::stretch::filler;
+use crate::stretch::run_end;
+use crate::stretch::scan;
+
+// The valid values of both quantities, in their order, into the first cells of `cs` and `ls`; how many there are.
+fn gather(
+    states: &[u8],
+    concentrations: &[u32],
+    flows: &[u32],
+    cs: &mut [u32],
+    ls: &mut [u32],
+) -> usize
+    requires { ⌜ (length (now states) ≤ length (now concentrations)) × (length (now states) ≤ length (now flows)) × (length (now states) ≤ length (now cs)) × (length (now states) ≤ length (now ls)) ⌝ }
+    ensures { λ r. ⌜ (r ≤ length (now (states .entry))) × (take r (now (cs .exit)) ≡ valids (row (now (states .entry)) (now (concentrations .entry)))) × (take r (now (ls .exit)) ≡ valids (row (now (states .entry)) (now (flows .entry)))) ⌝ }
+{
+    let mut b: usize = 0;
+    let mut i: usize = 0;
+    while i < states.len() {
+        if states[i] != 2 {
+            i += 1;
+            continue;
+        }
+        cs[b] = concentrations[i];
+        ls[b] = flows[i];
+        b += 1;
+        i += 1;
+    }
+    b
+}
+
+// One quantity of the gap at hour `first`: `kept` has its valid values, of which `b` stand before the gap.
+fn fill_one(states: &[u8], values: &mut [u32], kept: &[u32], first: usize, b: usize, gap: Gap)
+    requires { ⌜ (first ≤ gap .next) × (gap .next ≤ length (now states)) × (gap .next ≤ length (now values)) ⌝ }
+    ensures { λ _. ⌜ now (values .exit) ≡ patched (now (states .entry)) (fill meanUp same (gap .missing) (reverse (take b (now (kept .entry)))) (drop b (now (kept .entry)))) first (gap .next) (now (values .entry)) ⌝ }
+{
+    let v = gap::fill_of(gap.missing, kept, b);
+    filler(&mut values[first..], &states[first..], gap.next - first, v);
+}
+
+// Every gap, from the first hour on: of the hours before `i`, `empty` are not measured.
+fn walk(states: &[u8], concentrations: &mut [u32], flows: &mut [u32], cs: &[u32], ls: &[u32])
+    requires { ⌜ (length (now states) ≤ length (now concentrations)) × (length (now states) ≤ length (now flows)) × (now cs ≡ valids (row (now states) (now concentrations))) × (now ls ≡ valids (row (now states) (now flows))) ⌝ }
+    ensures { λ _. ⌜ (now (concentrations .exit) ≡ filledCells (now (states .entry)) (now (concentrations .entry))) × (now (flows .exit) ≡ filledCells (now (states .entry)) (now (flows .entry))) ⌝ }
+{
+    let mut empty: usize = 0;
+    let mut i: usize = 0;
+    while i < states.len() {
+        let s = states[i];
+        if s == 2 {
+            i = run_end(states, i + 1);
+        } else {
+            if s == 1 {
+                let gap = scan(states, i);
+                let b = i - empty;
+                fill_one(states, concentrations, cs, i, b, gap);
+                fill_one(states, flows, ls, i, b, gap);
+                i = gap.next;
+                empty = i - b;
+            } else {
+                empty += 1;
+                i += 1;
+            }
+        }
+    }
+}
+
+// The missing hours of both quantities filled, of which each hour has its cells.
+pub fn fill_gaps(states: &[u8], concentrations: &mut [u32], flows: &mut [u32])
+    requires { ⌜ (length (now states) ≤ 2208) × (length (now states) ≤ length (now concentrations)) × (length (now states) ≤ length (now flows)) ⌝ }
+    ensures { λ _. ⌜ (now (concentrations .exit) ≡ filledCells (now (states .entry)) (now (concentrations .entry))) × (now (flows .exit) ≡ filledCells (now (states .entry)) (now (flows .entry))) ⌝ }
+{
+    // The valid values are kept aside before a cell is written, so that no fill feeds another.
+    let mut cs = [0u32; 2208];
+    let mut ls = [0u32; 2208];
+    let count = gather(states, concentrations, flows, &mut cs, &mut ls);
+    walk(states, concentrations, flows, &cs[0..count], &ls[0..count]);
+}

@@ -1,2 +1,0 @@
--- What the walk over the gaps promises of one of them.
-pub mod Parts

@@ -1,0 +1,38 @@
+-- The figures of a survey are those of its readings; its hour's cell and flag. Assumes nothing.
+use mathlib.Core.Path.{_≡_, refl, sym, ap}
+use mathlib.Core.Bool.{Bool, false, _&&_}
+use mathlib.Core.List.{List}
+use Prim.Native.Nat.{ℕ, _<_, _≤_}
+use lib.ListN.{length, getD, set}
+use lib.Seq.{set-out}
+use lib.Dec.{eqb}
+use borrow.Author.Tests.{lt-ltb, le-ltb}
+use Rattle.law.proofs.Tests.{pick-case}
+use Rattle.reading.specs.declared.FlaggedPair.{FlaggedPair}
+use Rattle.reading.specs.Reading.{flaggedPair, flaggedHour}
+use Rattle.rules.specs.Hours.{measuredOf}
+use Rattle.rules.specs.declared.Survey.{Survey}
+use Rattle.line.specs.Put.{replacedCell, surveyC, surveyL, beats}
+
+module _ (t : Survey) (r : FlaggedPair) (e : r ≡ flaggedHour (measuredOf (t .pair))) where
+  pub concentration-is : r .concentration ≡ surveyC t
+  unfolding flaggedPair flaggedHour measuredOf
+  concentration-is = ap (λ (f : FlaggedPair). f .concentration) e
+
+  pub flow-is : r .flow ≡ surveyL t
+  unfolding flaggedPair flaggedHour measuredOf
+  flow-is = ap (λ (f : FlaggedPair). f .flow) e
+
+-- ---- an hour's flag: within the quarter, and past it
+pub beats-within : (flags : List ℕ) (h : ℕ) → h < 2_208 → eqb (getD flags h 0) 1 ≡ beats flags h
+unfolding beats
+beats-within flags h l = sym (ap (λ (t : Bool). t && eqb (getD flags h 0) 1) (lt-ltb h 2_208 l))
+
+pub beats-past : (flags : List ℕ) (h : ℕ) → 2_208 ≤ h → false ≡ beats flags h
+unfolding beats
+beats-past flags h l = sym (ap (λ (t : Bool). t && eqb (getD flags h 0) 1) (le-ltb h 2_208 l))
+
+-- an hour past the cells is not replaced
+pub replaced-past : (measured : Bool) (h v : ℕ) (cells : List ℕ) → length cells ≤ h → cells ≡ replacedCell measured h v cells
+replaced-past measured h v cells l =
+    pick-case (λ (t : List ℕ). cells ≡ t) measured (set cells h v) cells (λ _. sym (set-out cells h v l)) (λ _. refl)

@@ -1,2 +1,0 @@
--- The hours of a line's period.
-pub mod Period

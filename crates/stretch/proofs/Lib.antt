@@ -1,3 +1,0 @@
--- Laws of a stretch; the layers above cite them.
-pub mod Laws
-pub mod Only

@@ -1,2 +1,0 @@
--- One stretch of hours.
-pub mod Stretch

@@ -1,2 +1,0 @@
--- A survey put in at its hour.
-pub mod Put
