@@ -1,2 +1,3 @@
--- Document 01, "The record file": a day's readings.
+-- Document 01, "The record file": one hour of a day, and a day's readings.
+pub mod Hour
 pub mod Day

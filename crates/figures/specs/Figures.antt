@@ -4,7 +4,7 @@ use mathlib.Core.List.{List, [], _∷_, map}
 use mathlib.Core.Path.{_≡_}
 use Rattle.law.specs.Words.{pick}
 use Rattle.reading.specs.declared.Rounded.{Rounded}
-use Rattle.reading.specs.declared.Rounded.the-variants.{Value, Refused}
+use Rattle.reading.specs.declared.Rounded.the-variants.{Value, NotAllowed}
 use Rattle.reading.specs.Reading.{reading, concentrationOf, flowOf}
 use Rattle.rules.specs.declared.Head.{Head}
 use Rattle.rules.specs.declared.Batch.{Batch}
@@ -26,7 +26,7 @@ pub record Row : Type 0 where
 -- the figure of a rounded reading
 unfoldable pub figure : Rounded → Figure
 figure (Value n) = Gives n
-figure Refused = Refuses
+figure NotAllowed = Refuses
 
 -- a concentration, by its bit pattern
 unfoldable pub concentrationRow : ℕ → Figure → Row

@@ -26,7 +26,7 @@ fn judge_survey(v: View, runs: &[u32], s: Survey) -> Fault
     first_of(
         refuse_unless(3, (s.hour as u32) < 24 * (v.head.days as u32)),
         first_of(
-            day_hour::judge_pair(pair),
+            day::judge_pair(pair),
             refuse_unless(5, hours::runs_at(runs, s.hour)),
         ),
     )

@@ -16,11 +16,11 @@ use Rattle.line.specs.Put.{replacedCell, surveyC, surveyL, beats}
 
 module _ (t : Survey) (r : FlaggedPair) (e : r ≡ flaggedHour (measuredOf (t .pair))) where
   pub concentration-is : r .concentration ≡ surveyC t
-  unfolding flaggedPair flaggedHour measuredOf
+  unfolding flaggedPair flaggedHour
   concentration-is = ap (λ (f : FlaggedPair). f .concentration) e
 
   pub flow-is : r .flow ≡ surveyL t
-  unfolding flaggedPair flaggedHour measuredOf
+  unfolding flaggedPair flaggedHour
   flow-is = ap (λ (f : FlaggedPair). f .flow) e
 
 -- ---- an hour's flag: within the quarter, and past it

@@ -29,7 +29,7 @@ pub fn put_survey(t: Survey, measured: &[u32; 92], conc: &mut [u32], flow: &mut 
     ensures { λ r. ⌜ SurveyPut t (runsAt (now (measured .entry)) (t .hour)) (now (conc .entry)) (now (flow .entry)) (now (conc .exit)) (now (flow .exit)) r ⌝ }
 {
     let p = t.pair;
-    let f = day_hour::flagged_pair(p);
+    let f = reading::flagged_pair(p.concentration, p.flow);
     replace(measured, t.hour, f.concentration, conc);
     replace(measured, t.hour, f.flow, flow);
     Weighed {

@@ -77,7 +77,7 @@ impl Panel {
         if self.hours >= 2208 {
             return self.refuse(11);
         }
-        let f = rounding::figures_of(h);
+        let f = reading::figures_of(h);
         match f {
             Figures::Both(c, l) => self.add(c, l),
             Figures::NoData => {

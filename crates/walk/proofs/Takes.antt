@@ -247,12 +247,12 @@ module _ (bytes : List ℕ) (v : View) (s : Sums) (o : Open) (d : Done) where
   days-lent (Inside x done) k = omega (arith, ap (λ (w : View). w .days) (k .view), k .books .days, k .books .period)
 
   pub ready-day : (stand : Stand) (r : Record) (m : Masks) → r ≡ OfDay m → Ready stand bytes r v s o d
-      → (m .day < mostDays) × (length (o .concentrations) ≡ mostHours) × (length (o .flows) ≡ mostHours) × (v .days < mostDays) × (v .running ≤ mostHours) × (v .missing ≤ mostHours)
+      → (m .day < mostDays) × (length (o .concentrations) ≡ mostHours) × (length (o .flows) ≡ mostHours) × (v .days < mostDays) × (v .running ≤ mostHours) × (v .missing ≤ mostHours) × (205 ≤ length bytes)
   unfolding viewOf
   ready-day stand r m q k =
       let ok = day-ok v (runsOf stand) m (judged stand r (OfDay m) q k) in
       in-line stand v (k .kept .view) (ok .inside)
-      (λ a. Kept a v s o d → (m .day < mostDays) × (length (o .concentrations) ≡ mostHours) × (length (o .flows) ≡ mostHours) × (v .days < mostDays) × (v .running ≤ mostHours) × (v .missing ≤ mostHours))
+      (λ a. Kept a v s o d → (m .day < mostDays) × (length (o .concentrations) ≡ mostHours) × (length (o .flows) ≡ mostHours) × (v .days < mostDays) × (v .running ≤ mostHours) × (v .missing ≤ mostHours) × (205 ≤ length bytes))
       (λ x done y.
       let e = y .view in
       let b = y .books in
@@ -263,6 +263,7 @@ module _ (bytes : List ℕ) (v : View) (s : Sums) (o : Open) (d : Done) where
         n,
         omega (arith, ap (λ (w : View). w .running) e, running-period (x .days), b .days, b .period),
         omega (arith, ap (λ (w : View). w .missing) e, missing-period (x .days), running-period (x .days), b .days, b .period),
+        day-in bytes m (sym (k .read) ∙ q) .0,
       )) (k .kept)
 
   weights-most : (x : Line) (done : List Line) → Kept (Inside x done) v s o d → (s .surveyed ≤ mostSurveys) × (s .weight ≤ mostSurveys * mostAmount)

@@ -1,3 +1,0 @@
--- Laws of an hour's readings, and what the proofs of the code lean on.
-pub mod Laws
-pub mod Only

@@ -1,2 +1,0 @@
--- Document 01, "The record file": one hour of a day.
-pub mod Hour
