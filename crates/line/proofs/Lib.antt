@@ -1,4 +1,4 @@
--- Laws about a line's grams, and about a survey's figures, cell and flag, which the layer above cites too.
-pub mod Halves
+-- Laws about c x l, and about a survey's figures, cell and flag, which the layer above cites too.
+pub mod Products
 pub mod Surveys
 pub mod Only

@@ -3,31 +3,24 @@ use mathlib.Core.Path.{_≡_, _∙_, sym}
 use mathlib.Core.Bool.{Bool}
 use mathlib.Core.List.{List}
 use Prim.Native.Nat.{ℕ, _*_, max}
-use lib.Dec.{eqb}
-use Rattle.law.specs.Words.{need}
+use Rattle.law.specs.Numbers.{hoursOfDay}
 use Rattle.rules.specs.declared.Survey.{Survey}
 use Rattle.rules.specs.declared.View.{View}
 use Rattle.line.specs.declared.surveyed.Weighed.{Weighed}
-use Rattle.line.specs.Line.{gramsOf, rowIn}
+use Rattle.line.specs.Line.{rowIn}
 use Rattle.line.specs.Put.{SurveyPut, PlantPut}
 
 pub larger : (a b m n : ℕ) → m ≡ max a b → n ≡ max a b → m ≡ n
 larger a b m n p q = cc
 
-pub hours-of : (days a b : ℕ) → a ≡ 24 * days → b ≡ 24 * days → a ≡ b
+pub hours-of : (days a b : ℕ) → a ≡ hoursOfDay * days → b ≡ hoursOfDay * days → a ≡ b
 hours-of days a b p q = cc
 
 pub product : (c l a b : ℕ) → a ≡ c * l → b ≡ c * l → a ≡ b
 product c l a b p q = cc
 
-pub grams-of : (weight n a b : ℕ) → a ≡ gramsOf weight n → b ≡ gramsOf weight n → a ≡ b
-grams-of weight n a b p q = cc
-
 pub row-of : (v : View) (method grams first : ℕ) (a b : List ℕ) → a ≡ rowIn v method grams first → b ≡ rowIn v method grams first → a ≡ b
 row-of v method grams first a b p q = cc
-
-pub share : (pollutant own grams a b : ℕ) → a ≡ need 0 (eqb pollutant own) grams → b ≡ need 0 (eqb pollutant own) grams → a ≡ b
-share pollutant own grams a b p q = cc
 
 -- a survey: the answer and both quantities' cells
 module _ (t : Survey) (measured : Bool) (conc flow conc₁ conc₂ flow₁ flow₂ : List ℕ) (a b : Weighed) where

@@ -19,7 +19,6 @@ use Rattle.walk.specs.Taking.{EndReady, EndTaken}
 use Rattle.fills.specs.Period.{periodStates, isFilled, periodCells}
 use Rattle.line.specs.Line.{rowIn}
 use Rattle.fills.proofs.Period.{filled-on, filled-off}
-use Rattle.line.proofs.Halves.{grams-by}
 use Rattle.walk.specs.declared.take.Taken.{Taken}
 use Rattle.walk.specs.Books.{putFrom, Done}
 use Rattle.walk.specs.Views.{afterEnd}
@@ -107,19 +106,17 @@ module _ (v : View) (s : Sums) (runs measured conc flow conc' flow' : List ℕ) 
       line-by : (a b : Bool) → eqb m 1 ≡ a → eqb m 2 ≡ b → m ≡ lineMethod v → g ≡ lineGrams m v s conc' flow' → figures m
       line-by true b t u q r =
           let z = eqb-true m 1 t in
-          let w = grams-by (periodWeight (v .head .days) conc' flow') 1 (omega arith) (omega (arith, weight-most z)) in
           record {
-            automatic = λ _. record { concentrations = ec ∙ filled-now m conc z; flows = el ∙ filled-now m flow z; grams = r ∙ sym (pick-true _ _ _ _ t refl) ∙ sym w };
+            automatic = λ _. record { concentrations = ec ∙ filled-now m conc z; flows = el ∙ filled-now m flow z; grams = r ∙ sym (pick-true _ _ _ _ t refl) };
             manual = λ i. absurd (omega arith);
             fuel = λ n _. absurd (n z);
           }
       line-by false true t u q r =
           let n = eqb-false m 1 t in
           let z = eqb-true m 2 u in
-          let w = grams-by (s .weight * v .running) (s .surveyed) (e .some (sym q ∙ z)) (omega (arith, mul-le-mul {n₂ = mostSurveys * mostAmount} {m₂ = mostHours} (e .weight) (e .running))) in
           record {
             automatic = λ i. absurd (n i);
-            manual = λ _. (ec ∙ plain-now m conc n, el ∙ plain-now m flow n, r ∙ sym (pick-false _ _ _ _ t refl) ∙ sym (pick-true _ _ _ _ u refl) ∙ sym w);
+            manual = λ _. (ec ∙ plain-now m conc n, el ∙ plain-now m flow n, r ∙ sym (pick-false _ _ _ _ t refl) ∙ sym (pick-true _ _ _ _ u refl));
             fuel = λ _ i. absurd (i z);
           }
       line-by false false t u q r =

@@ -6,7 +6,6 @@ use lib.ListN.{take, getD, set}
 use lib.Dec.{eqb}
 use Rattle.law.specs.Numbers.{hoursOfDay, mostConcentration, mostFlow, perGram}
 use Rattle.law.specs.Words.{pick, halvesUp}
-use Rattle.line.specs.Line.{gramsOf}
 use Rattle.fills.specs.Gaps.{filledCells}
 use Rattle.fills.specs.Weights.{products}
 use Rattle.rules.specs.declared.View.{View}
@@ -39,8 +38,8 @@ pub record Limits (conc flow : List ℕ) : Type 0 where
 -- the grams of a line by its method and its cells, which are filled under method 1
 abbrev pub lineGrams : ℕ → View → Sums → List ℕ → List ℕ → ℕ
 lineGrams method v s conc flow =
-    pick (eqb method 1) (gramsOf (periodWeight (v .head .days) conc flow) 1)
-    (pick (eqb method 2) (gramsOf (s .weight * v .running) (s .surveyed)) (gramsIn (fuelFigure (v .head) (v .fuel) (s .sulphur) (s .ash))))
+    pick (eqb method 1) (halvesUp (periodWeight (v .head .days) conc flow) (1 * perGram))
+    (pick (eqb method 2) (halvesUp (s .weight * v .running) (s .surveyed * perGram)) (gramsIn (fuelFigure (v .head) (v .fuel) (s .sulphur) (s .ash))))
 
 -- the same as what the lines above ask, beside the cells before and after
 pub record LineGrams (method : ℕ) (v : View) (s : Sums) (states conc flow conc' flow' : List ℕ) (r : ℕ) : Type 0 where

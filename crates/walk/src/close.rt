@@ -5,7 +5,8 @@ use rules::View;
 ghost use mathlib.Core.Path.{_≡_};
 ghost use Prim.Native.Nat.{ℕ, _+_, _*_, _^_, _<_, _≤_};
 ghost use lib.ListN.{length, getD};
-ghost use Rattle.law.specs.Numbers.{hoursOfDay, mostHours, mostLines, totalCells, mostSurveys, mostAmount, mostGrams};
+ghost use Rattle.law.specs.Numbers.{hoursOfDay, mostHours, mostLines, totalCells, mostSurveys, mostAmount, perGram, mostGrams};
+ghost use Rattle.law.specs.Words.{halvesUp};
 ghost use Rattle.fills.specs.Weights.{products};
 ghost use Rattle.walk.specs.Closing.{gramsIn, periodWeight, lineGrams, withGrams};
 
@@ -42,17 +43,26 @@ fn period_weight(conc: &[u32], flow: &[u32], days: u8) -> u64
     weigh(&conc[0..n], &flow[0..n])
 }
 
+// The sum of c x l over n hours and 100,000, halves up: half of the divisor is added first, so that nothing is doubled.
+fn grams_of(weight: u64, n: u32) -> u64
+    requires { ⌜ (0 < n) × (weight ≤ mostSurveys * mostAmount * mostHours) ⌝ }
+    ensures { λ r. ⌜ r ≡ halvesUp weight (n * perGram) ⌝ }
+{
+    let half = 50_000 * (n as u64);
+    (weight + half) / (2 * half)
+}
+
 // The grams of a line by its method and its cells, which are filled under method 1.
 pub fn line_grams(method: u32, v: View, s: Sums, conc: &[u32], flow: &[u32]) -> u64
-    requires { ⌜ (hoursOfDay * v .head .days ≤ length (now conc)) × (hoursOfDay * v .head .days ≤ length (now flow)) × (method ≡ 1 → periodWeight (v .head .days) (now conc) (now flow) < 2 ^ 64) × (s .weight ≤ mostSurveys * mostAmount) × (v .running ≤ mostHours) ⌝ }
+    requires { ⌜ (hoursOfDay * v .head .days ≤ length (now conc)) × (hoursOfDay * v .head .days ≤ length (now flow)) × (method ≡ 1 → periodWeight (v .head .days) (now conc) (now flow) ≤ mostHours * mostAmount) × (s .weight ≤ mostSurveys * mostAmount) × (v .running ≤ mostHours) × (method ≡ 2 → 0 < s .surveyed) ⌝ }
     ensures { λ r. ⌜ r ≡ lineGrams method v s (now (conc .entry)) (now (flow .entry)) ⌝ }
 {
     let h = v.head;
     if method == 1 {
-        return line::grams_of(period_weight(conc, flow, h.days), 1);
+        return grams_of(period_weight(conc, flow, h.days), 1);
     }
     if method == 2 {
-        return line::grams_of(s.weight * (v.running as u64), s.surveyed);
+        return grams_of(s.weight * (v.running as u64), s.surveyed);
     }
     grams_in(fuel::fuel_figure(h, v.fuel, s.sulphur, s.ash))
 }

@@ -1,5 +1,5 @@
 -- `line::product` meets its contract. Assumes nothing.
-use Rattle.line.proofs.Halves.{product-fits}
+use Rattle.line.proofs.Products.{product-fits}
 use borrow.Author.Needs.{needs}
 use Rattle.line.proofs.product.Statement.{statement}
 use Rattle.line.proofs.product.Tie as tie

@@ -1,25 +1,32 @@
 -- `walk::close::line_grams` meets its contract, by the method. Assumes nothing.
 use borrow.Author.Needs.{needs}
 use mathlib.Core.Path.{_∙_, ap}
-use Prim.Native.Nat.{ℕ}
+use Prim.Native.Nat.{ℕ, _*_}
 use native.Mathlib.Nat.{mul-le-mul}
 use native.Mathlib.Omega.{arith}
 use Rattle.law.proofs.Tests.{pick-eq, pick-not-eq}
-use Rattle.line.specs.Line.{gramsOf}
+use Rattle.law.specs.Numbers.{perGram}
+use Rattle.law.specs.Words.{halvesUp}
 use Rattle.walk.specs.Closing.{gramsIn}
 use Rattle.walk.proofs.close.line_grams.Statement.{statement}
 use Rattle.walk.proofs.close.line_grams.Tie as tie
 
 period-weight-requires : tie.Need-period-weight-requires
-period-weight-requires c κs = let p = c .before .before .before .before .pre in (p .0, p .1, p .2 (c .if1 .taken))
+period-weight-requires c κs = let p = c .before .before .before .before .pre in (p .0, p .1, omega (arith, p .2 (c .if1 .taken)))
+
+grams-of-requires : tie.Need-grams-of-requires
+grams-of-requires c κs = let t = c .before in let p = t .before .before .before .before .pre in (omega arith, omega (arith, c .period-weight .ensures, p .2 (t .if1 .taken)))
 
 returns : tie.Need-returns
 returns c =
     let w = c .before in
-    pick-eq _ _ _ _ _ (w .before .if1 .taken) (c .grams-of .ensures ∙ ap (λ (n : ℕ). gramsOf n 1) (w .period-weight .ensures))
+    pick-eq _ _ _ _ _ (w .before .if1 .taken) (c .grams-of .ensures ∙ ap (λ (n : ℕ). halvesUp n (1 * perGram)) (w .period-weight .ensures))
 
 mul-grams-of : tie.Need-mul-grams-of
 mul-grams-of c = let p = c .before .before .before .before .before .before .before .pre in omega (arith, mul-le-mul (p .3) (p .4))
+
+grams-of-requires-2 : tie.Need-grams-of-requires-2
+grams-of-requires-2 c κs = let p = c .before .before .before .before .before .before .before .pre in (p .5 (c .before .before .if2 .taken), mul-le-mul (p .3) (p .4))
 
 returns-2 : tie.Need-returns-2
 returns-2 c =
@@ -36,11 +43,11 @@ line-grams-spec =
     tie.close
     (tie.spec
     period-weight-requires
-    (λ c κs. search needs)
+    grams-of-requires
     returns
     (λ c. search needs)
     mul-grams-of
-    (λ c κs. search needs)
+    grams-of-requires-2
     returns-2
     (λ c κs. search needs)
     (λ c κs. search needs)
