@@ -4,6 +4,7 @@ use mathlib.Core.Path.{_≡_}
 use Prim.Native.Nat.{ℕ, _+_, _*_, _^_, _≤_}
 use native.Mathlib.Omega.{arith}
 use lib.ListN.{length}
+use Rattle.law.specs.Numbers.{perGram}
 use Rattle.law.specs.Words.{apart}
 use Rattle.rules.specs.Lines.{Line, surveyed}
 use Rattle.rules.specs.Method.{method}
@@ -20,13 +21,13 @@ both-sides : (a b d : ℕ) → 4 * apart a b ≤ d → Between a d b
 unfolding apart
 both-sides a b d h = (omega arith, omega arith)
 
-pub automatic-between : (x : Line) → method x ≡ 1 → Between (100_000 * grams x * 2 ^ 300) ((200_000 + automaticAllowance x) * 2 ^ 300) (exactAutomatic x)
+pub automatic-between : (x : Line) → method x ≡ 1 → Between (perGram * grams x * 2 ^ 300) ((2 * perGram + automaticAllowance x) * 2 ^ 300) (exactAutomatic x)
 unfolding AutomaticNear
 automatic-between x m =
-    both-sides (100_000 * grams x * 2 ^ 300) (exactAutomatic x) ((200_000 + automaticAllowance x) * 2 ^ 300) (near x .automatic m)
+    both-sides (perGram * grams x * 2 ^ 300) (exactAutomatic x) ((2 * perGram + automaticAllowance x) * 2 ^ 300) (near x .automatic m)
 
 pub manual-between : (x : Line) → method x ≡ 2
-    → Between (length (surveyed x) * 100_000 * grams x * 2 ^ 298) ((2 * (length (surveyed x) * 100_000) + manualAllowance x) * 2 ^ 298) (exactManual x)
+    → Between (length (surveyed x) * perGram * grams x * 2 ^ 298) ((2 * (length (surveyed x) * perGram) + manualAllowance x) * 2 ^ 298) (exactManual x)
 unfolding ManualNear
 manual-between x m =
-    both-sides (length (surveyed x) * 100_000 * grams x * 2 ^ 298) (exactManual x) ((2 * (length (surveyed x) * 100_000) + manualAllowance x) * 2 ^ 298) (near x .manual m)
+    both-sides (length (surveyed x) * perGram * grams x * 2 ^ 298) (exactManual x) ((2 * (length (surveyed x) * perGram) + manualAllowance x) * 2 ^ 298) (near x .manual m)

@@ -6,6 +6,7 @@ use mathlib.Core.Path.{subst}
 use mathlib.Core.List.{List, Forall₂, Forall₂·nil, Forall₂·cons}
 use mathlib.Core.Bool.{Bool, true, false}
 use lib.Dec.{leb}
+use Rattle.law.specs.Numbers.{longWindow}
 use Rattle.law.specs.Words.{pick, largest, halvesUp}
 use Rattle.law.proofs.Halves.{Within, within-times, spread, times-max, halves-within, hour-off}
 use Rattle.rules.specs.Fill.{Values, cs, ls, window, short, long, fill, fillBoth, meanUp, same, filled}
@@ -42,7 +43,7 @@ module _ (R Q : ℕ → ℕ → Type 0) (mean mean' : ℕ → ℕ → ℕ) (once
 
     long-alike : {b a y x : List ℕ} → Forall₂ R b y → Forall₂ R a x → Q (long mean once b a) (long mean' once' y x)
     unfolding long
-    long-alike {b} {a} {y} {x} h k = onces (largest (window 720 b a)) (largest (window 720 y x)) (largest-alike R zeros maxes (window-alike 720 h k))
+    long-alike {b} {a} {y} {x} h k = onces (largest (window longWindow b a)) (largest (window longWindow y x)) (largest-alike R zeros maxes (window-alike 720 h k))
 
     pub fill-alike : (g : ℕ) {b a y x : List ℕ} → Forall₂ R b y → Forall₂ R a x → Q (fill mean once g b a) (fill mean' once' g y x)
     unfolding fill pick

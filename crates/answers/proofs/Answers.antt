@@ -7,8 +7,8 @@ use native.Mathlib.Omega.{arith}
 use lib.ListN.{length, drop}
 use lib.Dec.{leb}
 use borrow.Author.Tests.{leb-false}
-use Rattle.law.specs.Words.{need}
 use Rattle.law.specs.Numbers.{rowCells, mostCells}
+use Rattle.law.specs.Words.{need}
 use Rattle.rules.specs.declared.Answer.{Answer}
 use Rattle.rules.specs.Lines.{Line}
 use Rattle.rules.specs.Row.{rowsOf}

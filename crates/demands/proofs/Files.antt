@@ -8,6 +8,7 @@ use native.Mathlib.Omega.{arith}
 use lib.ListN.{length, getD, set, replicate}
 use lib.Dec.{T, ltb, ltb→lt}
 use lib.Ieee.Fits.{and-l, and-r}
+use Rattle.law.specs.Numbers.{mostHours}
 use Rattle.rules.specs.declared.Answer.{Answer}
 use Rattle.rules.specs.Row.{concentrationCells, flowCells}
 use Rattle.rules.specs.Account.{answerOf, rowsAfter, workAfter}
@@ -25,7 +26,7 @@ two = example ++ second
 
 -- a call with cells for two rows, and the least work slices
 abbrev pub callOf : List ℕ → Call
-callOf file = record { file = file; rows = replicate 14 0; concentrations = replicate 2_208 0; flows = replicate 2_208 0 }
+callOf file = record { file = file; rows = replicate 14 0; concentrations = replicate mostHours 0; flows = replicate mostHours 0 }
 
 -- ---- they can be lent: each element is tested
 every : ℕ → List ℕ → Bool
@@ -44,7 +45,7 @@ slice bytes s p t u = (every-below (256 ^ bytes) s p t, ltb→lt (length s * byt
 lent-of : (file : List ℕ) → Slice 1 file → Lent (callOf file)
 unfolding every
 lent-of file f =
-    let work = slice 4 (replicate 2_208 0) (omega arith) tt tt in
+    let work = slice 4 (replicate mostHours 0) (omega arith) tt tt in
     (f, slice 8 (replicate 14 0) (omega arith) tt tt, work, work)
 
 pub record LentAll : Type 0 where
@@ -63,10 +64,10 @@ lent-all =
 
 -- ---- what they give
 abbrev answerTo : List ℕ → Answer
-answerTo file = answerOf file 14 2_208 2_208
+answerTo file = answerOf file 14 mostHours mostHours
 
 abbrev rowsTo : List ℕ → List ℕ
-rowsTo file = rowsAfter file (replicate 14 0) 2_208 2_208
+rowsTo file = rowsAfter file (replicate 14 0) mostHours mostHours
 
 pub record Given (file : List ℕ) (count : ℕ) : Type 0 where
   pub number : answerTo file .number ≡ 0
@@ -79,8 +80,8 @@ pub record GivenAll : Type 0 where
   pub rowExample : rowsTo example ≡ (1 ∷ 2 ∷ 1 ∷ 126_500 ∷ 4 ∷ 1 ∷ 3 ∷ []) ++ replicate 7 0
   pub rowSecond : rowsTo second ≡ (2 ∷ 2 ∷ 1 ∷ 136_500 ∷ 4 ∷ 1 ∷ 3 ∷ []) ++ replicate 7 0
   pub rowsTwo : rowsTo two ≡ (1 ∷ 2 ∷ 1 ∷ 126_500 ∷ 4 ∷ 1 ∷ 3 ∷ []) ++ (2 ∷ 2 ∷ 1 ∷ 136_500 ∷ 4 ∷ 1 ∷ 3 ∷ [])
-  pub concentration : getD (workAfter concentrationCells example 14 2_208 2_208 (replicate 2_208 0)) 0 0 ≡ 2000
-  pub flow : getD (workAfter flowCells example 14 2_208 2_208 (replicate 2_208 0)) 0 0 ≡ 1000000
+  pub concentration : getD (workAfter concentrationCells example 14 mostHours mostHours (replicate mostHours 0)) 0 0 ≡ 2000
+  pub flow : getD (workAfter flowCells example 14 mostHours mostHours (replicate mostHours 0)) 0 0 ≡ 1000000
 
 pub given-all : GivenAll
 unfolding example second two rules

@@ -7,8 +7,8 @@ use native.Mathlib.Omega.{arith}
 use lib.ListN.{length, take, drop, getD, replicate}
 use lib.Dec.{leb}
 use borrow.Author.Tests.{leb-false}
-use Rattle.law.specs.Words.{apart}
 use Rattle.law.specs.Numbers.{perGram}
+use Rattle.law.specs.Words.{apart}
 use Rattle.rules.specs.{Lines.Line, Method.method, Grams.grams, Row.rowOf, Walk.Outcome, Walk.Refused, Walk.Accepted, Walk.begun, Walk.noHead, Walk.outcome, Opened.rules}
 use Rattle.allowance.specs.Exact.{exactOf, twice, twiceMean, twiceBoth, exactFill, exactHourly, exactAutomatic}
 use Rattle.allowance.specs.Allowance.{ofMeasured, ofFilled, ofFill, automaticAllowance}

@@ -7,6 +7,7 @@ use mathlib.Core.Path.{_≡_}
 use lib.ListN.{length, take, drop, getD}
 use lib.Ieee.Exact.{HasValue}
 use denote.Ref.{RefT, ptr, now}
+use Rattle.law.specs.Numbers.{mostHours}
 use Rattle.reading.specs.{declared.Hour.Hour, Reading.reading, Reading.allowed, Reading.exact}
 use Rattle.rules.specs.{declared.Head.Head, declared.Answer.Answer, Lines.Line, Grams.grams, Row.rowOf, Walk.Accepted, Walk.outcome, Account.Promise}
 use Rattle.answers.specs.Heads.{headsOf}
@@ -84,7 +85,7 @@ RefusesAll v = (c : Call) → Lent c → v c .answer .number ≡ 0 → ⊥
 
 -- a panel over any hours: when none is refused, and then the total, the hours and the missing hours, each exactly
 pub record PanelExact (hs : List Hour) : Type 0 where
-  pub taken : NoneRefused emptyPanel hs ↔ NoneBad hs × (length hs ≤ 2_208) × (products hs ≤ 2 ^ 53)
+  pub taken : NoneRefused emptyPanel hs ↔ NoneBad hs × (length hs ≤ mostHours) × (products hs ≤ 2 ^ 53)
   pub state : NoneRefused emptyPanel hs → after emptyPanel hs ≡ record { total = asTotal (products hs); hours = length hs; missing = missingHours hs }
   pub value : NoneRefused emptyPanel hs → HasValue (after emptyPanel hs .total) false (products hs) 1
 

@@ -3,6 +3,7 @@ ghost use mathlib.Core.Path.{_≡_};
 ghost use mathlib.Core.List.{reverse};
 ghost use Prim.Native.Nat.{_≤_};
 ghost use lib.ListN.{length, take, drop};
+ghost use Rattle.law.specs.Numbers.{mostHours};
 ghost use Rattle.rules.specs.Slots.{valids};
 ghost use Rattle.rules.specs.Fill.{fill, meanUp, same};
 ghost use Rattle.fills.specs.Gaps.{row, filledCells};
@@ -76,7 +77,7 @@ fn walk(states: &[u8], concentrations: &mut [u32], flows: &mut [u32], cs: &[u32]
 
 // The missing hours of both quantities filled, of which each hour has its cells.
 pub fn fill_gaps(states: &[u8], concentrations: &mut [u32], flows: &mut [u32])
-    requires { ⌜ (length (now states) ≤ 2208) × (length (now states) ≤ length (now concentrations)) × (length (now states) ≤ length (now flows)) ⌝ }
+    requires { ⌜ (length (now states) ≤ mostHours) × (length (now states) ≤ length (now concentrations)) × (length (now states) ≤ length (now flows)) ⌝ }
     ensures { λ _. ⌜ (now (concentrations .exit) ≡ filledCells (now (states .entry)) (now (concentrations .entry))) × (now (flows .exit) ≡ filledCells (now (states .entry)) (now (flows .entry))) ⌝ }
 {
     // The valid values are kept aside before a cell is written, so that no fill feeds another.

@@ -6,13 +6,14 @@ use cells::lesser;
 ghost use mathlib.Core.Path.{_≡_};
 ghost use Prim.Native.Nat.{_*_, _≤_};
 ghost use lib.ListN.{length};
+ghost use Rattle.law.specs.Numbers.{hoursOfDay, mostHours};
 ghost use Rattle.rules.specs.Hours.{firstMissing};
 ghost use Rattle.fills.specs.Gaps.{filledCells};
 ghost use Rattle.fills.specs.Period.{periodStates, isFilled, periodCells};
 
 // Both quantities of the line filled.
 fn fill_line(runs: &[u32; 92], measured: &[u32; 92], days: u8, conc: &mut [u32], flow: &mut [u32])
-    requires { ⌜ (24 * days ≤ 2208) × (24 * days ≤ length (now conc)) × (24 * days ≤ length (now flow)) ⌝ }
+    requires { ⌜ (hoursOfDay * days ≤ mostHours) × (hoursOfDay * days ≤ length (now conc)) × (hoursOfDay * days ≤ length (now flow)) ⌝ }
     ensures { λ _. ⌜ (now (conc .exit) ≡ filledCells (periodStates (now (runs .entry)) (now (measured .entry)) days) (now (conc .entry))) × (now (flow .exit) ≡ filledCells (periodStates (now (runs .entry)) (now (measured .entry)) days) (now (flow .entry))) ⌝ }
 {
     let mut states = [0u8; 2208];

@@ -5,6 +5,7 @@ use mathlib.Core.List.{List, [], _∷_}
 use Prim.Native.Nat.{ℕ, _+_, _*_, _≤_}
 use native.Mathlib.Nat.{mul-le-mul-left, mul-comm, mul-add, mul-zero}
 use native.Mathlib.Omega.{arith}
+use Rattle.law.specs.Numbers.{mostSulphur, mostFuel}
 use Rattle.law.specs.Words.{sumOf, largest}
 use Rattle.law.proofs.Halves.{spread}
 use Rattle.rules.specs.declared.Batch.{Batch}
@@ -19,7 +20,7 @@ pub in-range-none : InRange []
 unfolding fuel sulphurOf ashOf sumOf largest
 in-range-none = record { kg = omega arith; sulphur = omega arith; ash = omega arith }
 
-pub in-range-more : (b : Batch) (batches : List Batch) → InRange batches → b .kg + fuel batches ≤ 10_000_000_000 → b .sulphur ≤ 2_000 → b .ash ≤ 10_000 → InRange (b ∷ batches)
+pub in-range-more : (b : Batch) (batches : List Batch) → InRange batches → b .kg + fuel batches ≤ mostFuel → b .sulphur ≤ mostSulphur → b .ash ≤ 10_000 → InRange (b ∷ batches)
 unfolding fuel sulphurOf ashOf sumOf largest
 in-range-more b batches r l s a =
     record {

@@ -7,6 +7,7 @@ use native.Mathlib.Nat.{mul-le-mul}
 use native.Mathlib.Omega.{arith}
 use lib.Dec.{leb}
 use borrow.Author.Tests.{leb-true}
+use Rattle.law.specs.Numbers.{mostSulphur, mostAsh, mostFuel}
 use Rattle.law.specs.Words.{needAll, halvesUp}
 use Rattle.law.proofs.Tests.{need-le, both-true}
 use Rattle.law.proofs.Halves.{halves-fit}
@@ -29,26 +30,26 @@ pub entry-small : (h : Head) (entry : Coefficients) → coefficientsOf h ≡ ent
 entry-small h entry e = subst Small e (coefficients-small h)
 
 -- ---- products
-pub a-fits : (a ash : ℕ) → a ≤ 936 → ash ≤ 100_000_000_000_000 → a * ash ≤ 93_600_000_000_000_000
+pub a-fits : (a ash : ℕ) → a ≤ 936 → ash ≤ mostFuel * mostAsh → a * ash ≤ 93_600_000_000_000_000
 a-fits a ash l s = mul-le-mul {n₁ = a} {m₁ = ash} {n₂ = 936} {m₂ = 100_000_000_000_000} l s
 
-module _ (kg : ℕ) (few : kg ≤ 10_000_000_000) where
+module _ (kg : ℕ) (few : kg ≤ mostFuel) where
   pub burnt-fits : (q : ℕ) → 2 * kg * (1_000 - q) ≤ 20_000_000_000_000
   burnt-fits q = mul-le-mul {n₁ = 2 * kg} {m₁ = 1_000 - q} {n₂ = 20_000_000_000} {m₂ = 1_000} (omega arith) (omega arith)
 
-  pub sulphured-fits : (q sulphur : ℕ) → sulphur ≤ 2_000 → 2 * kg * (1_000 - q) * sulphur ≤ 40_000_000_000_000_000
-  sulphured-fits q sulphur s = mul-le-mul {n₁ = 2 * kg * (1_000 - q)} {m₁ = sulphur} {n₂ = 20_000_000_000_000} {m₂ = 2_000} (burnt-fits q) s
+  pub sulphured-fits : (q sulphur : ℕ) → sulphur ≤ mostSulphur → 2 * kg * (1_000 - q) * sulphur ≤ 40_000_000_000_000_000
+  sulphured-fits q sulphur s = mul-le-mul {n₁ = 2 * kg * (1_000 - q)} {m₁ = sulphur} {n₂ = 20_000_000_000_000} {m₂ = mostSulphur} (burnt-fits q) s
 
-  pub balance-fits : (q sulphur k : ℕ) → sulphur ≤ 2_000 → k ≤ 90 → 2 * kg * (1_000 - q) * sulphur * k ≤ 3_600_000_000_000_000_000
+  pub balance-fits : (q sulphur k : ℕ) → sulphur ≤ mostSulphur → k ≤ 90 → 2 * kg * (1_000 - q) * sulphur * k ≤ 3_600_000_000_000_000_000
   balance-fits q sulphur k s l = mul-le-mul {n₁ = 2 * kg * (1_000 - q) * sulphur} {m₁ = k} {n₂ = 40_000_000_000_000_000} {m₂ = 90} (sulphured-fits q sulphur s) l
 
   pub oxides-fits : (coefficient : ℕ) → coefficient ≤ 801 → kg * coefficient ≤ 8_010_000_000_000
-  oxides-fits coefficient l = mul-le-mul {n₁ = kg} {m₁ = coefficient} {n₂ = 10_000_000_000} {m₂ = 801} few l
+  oxides-fits coefficient l = mul-le-mul {n₁ = kg} {m₁ = coefficient} {n₂ = mostFuel} {m₂ = 801} few l
 
   pub b-fits : (b : ℕ) → b ≤ 1_113 → 100 * b * kg ≤ 1_113_000_000_000_000
-  b-fits b l = mul-le-mul {n₁ = 100 * b} {m₁ = kg} {n₂ = 111_300} {m₂ = 10_000_000_000} (omega arith) few
+  b-fits b l = mul-le-mul {n₁ = 100 * b} {m₁ = kg} {n₂ = 111_300} {m₂ = mostFuel} (omega arith) few
 
-  pub dust-fits : (a b ash : ℕ) → a ≤ 936 → b ≤ 1_113 → ash ≤ 100_000_000_000_000 → a * ash + 100 * b * kg ≤ 94_713_000_000_000_000
+  pub dust-fits : (a b ash : ℕ) → a ≤ 936 → b ≤ 1_113 → ash ≤ mostFuel * mostAsh → a * ash + 100 * b * kg ≤ 94_713_000_000_000_000
   dust-fits a b ash l m n = omega (arith, a-fits a ash l n, b-fits b m)
 
 -- ---- the document's range, by tests that are no wider

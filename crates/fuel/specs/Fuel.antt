@@ -2,6 +2,7 @@
 use Prim.Native.Nat.{ℕ, _+_, _-_, _*_, _≤_}
 use mathlib.Core.List.{List, [], _∷_}
 use lib.Dec.{leb}
+use Rattle.law.specs.Numbers.{mostSulphur, mostAsh, mostFuel}
 use Rattle.law.specs.Words.{needAll, sumOf, halvesUp}
 use Rattle.rules.specs.declared.Head.{Head}
 use Rattle.rules.specs.declared.Batch.{Batch}
@@ -19,8 +20,8 @@ ashOf batches = sumOf (λ b. b .kg * b .ash) batches
 
 -- what is kept of batches is in the document's range
 pub record InRange (batches : List Batch) : Type 0 where
-  pub kg : fuel batches ≤ 10_000_000_000
-  pub sulphur : sulphurOf batches ≤ 2_000
+  pub kg : fuel batches ≤ mostFuel
+  pub sulphur : sulphurOf batches ≤ mostSulphur
   pub ash : ashOf batches ≤ 10_000 * fuel batches
 
 -- before the division, halves up: "2 x B x (1000 - q) x S x K", "B x coefficient", "kg x (a x ash + 100 x b)"
@@ -43,12 +44,12 @@ figureOf NoEntry kg sulphur ash = WithoutEntry
 
 -- the document's range: "a line's fuel at most 10,000,000,000 kg", "sulphur at most 2,000, ash at most 10,000"
 abbrev pub Ranged : ℕ → ℕ → ℕ → Type 0
-Ranged kg sulphur ash = (kg ≤ 10_000_000_000) × (sulphur ≤ 2_000) × (ash ≤ 100_000_000_000_000)
+Ranged kg sulphur ash = (kg ≤ mostFuel) × (sulphur ≤ mostSulphur) × (ash ≤ mostFuel * mostAsh)
 
 -- within it the figure, else none
 unfoldable pub fuelFigure : Head → ℕ → ℕ → ℕ → FuelFigure
 fuelFigure h kg sulphur ash =
-    needAll OutOfRange (leb kg 10_000_000_000 ∷ leb sulphur 2_000 ∷ leb ash 100_000_000_000_000 ∷ [])
+    needAll OutOfRange (leb kg mostFuel ∷ leb sulphur mostSulphur ∷ leb ash (mostFuel * mostAsh) ∷ [])
     (figureOf (coefficientsOf h) kg sulphur ash)
 
 -- the paper's number for each case: 7 "no table entry", 3 "field .. or fuel sum out of range"

@@ -5,6 +5,7 @@ use native.Mathlib.Nat.{le-trans}
 use native.Mathlib.Omega.{arith}
 use lib.ListN.{take}
 use lib.Dec.{leb}
+use Rattle.law.specs.Numbers.{shortGap}
 use Rattle.law.specs.Words.{largest}
 use Rattle.law.proofs.Tests.{pick-case}
 use Rattle.law.proofs.Halves.{mean-is}
@@ -36,4 +37,4 @@ module _ (M : ℕ) where
   pub fill-most : (gap : ℕ) (before after : List ℕ) → largest before ≤ M → largest after ≤ M → fill meanUp same gap before after ≤ M
   unfolding fill
   fill-most gap before after b a =
-      pick-case (λ (v : ℕ). v ≤ M) (leb gap 24) _ _ (λ t. short-most before after b a) (λ t. long-most before after b a)
+      pick-case (λ (v : ℕ). v ≤ M) (leb gap shortGap) _ _ (λ t. short-most before after b a) (λ t. long-most before after b a)

@@ -8,6 +8,7 @@ use native.Mathlib.Nat.{mod-lt, zero-lt-suc, mul-zero, mul-suc, mul-one, mul-add
 use native.Mathlib.Omega.{arith}
 use lib.ListN.{length, getD, length-append, List·getD-append, List·getD-eq-default}
 use lib.Seq.{getD-append-add}
+use Rattle.law.specs.Numbers.{hoursOfDay}
 use Rattle.law.specs.Words.{table}
 use Rattle.law.proofs.Tables.{table-length, table-at}
 use Rattle.rules.specs.declared.Pair.{Pair}
@@ -50,7 +51,7 @@ noDay = record { masks = record { day = 0; run = 0; measured = 0 }; pairs = [] }
 
 -- the day of an hour of the period
 unfoldable pub dayAt : List Day → ℕ → Day
-dayAt ds h = getD ds (length ds - 1 - h / 24) noDay
+dayAt ds h = getD ds (length ds - 1 - h / hoursOfDay) noDay
 
 slots-rows : (ds : List Day) → slotsOf ds ≡ rows slotOf 24 ds
 unfolding slotsOf rows
@@ -68,7 +69,7 @@ measured-rows [] = refl
 measured-rows (d ∷ ds) = ap (λ (t : List ℕ). t ++ (d .masks .measured ∷ [])) (measured-rows ds)
 
 -- how long they are
-pub length-slots : (ds : List Day) → length (slotsOf ds) ≡ 24 * length ds
+pub length-slots : (ds : List Day) → length (slotsOf ds) ≡ hoursOfDay * length ds
 length-slots ds = ap length (slots-rows ds) ∙ length-rows slotOf 24 ds
 
 pub length-runs : (ds : List Day) → length (runMasks ds) ≡ length ds
@@ -79,33 +80,33 @@ length-measured ds = ap length (measured-rows ds) ∙ length-rows (λ d h. d .ma
 
 -- what stands in them at hour h of the period, and past its end
 module _ (ds : List Day) (h : ℕ) where
-  module _ (l : h < 24 * length ds) where
-    pub slot-day : getD (slotsOf ds) h stopped ≡ slotOf (dayAt ds h) (h % 24)
+  module _ (l : h < hoursOfDay * length ds) where
+    pub slot-day : getD (slotsOf ds) h stopped ≡ slotOf (dayAt ds h) (h % hoursOfDay)
     unfolding dayAt
     slot-day =
-        let e : h ≡ 24 * (h / 24) + h % 24 = omega arith in
-        let k : h / 24 < length ds = omega arith in
-        ap₂ (λ (t : List (Slot Pair)) (x : ℕ). getD t x stopped) (slots-rows ds) e ∙ row-at slotOf 24 ds (h / 24) (h % 24) noDay stopped k (mod-lt h (zero-lt-suc 23))
+        let e : h ≡ hoursOfDay * (h / hoursOfDay) + h % hoursOfDay = omega arith in
+        let k : h / hoursOfDay < length ds = omega arith in
+        ap₂ (λ (t : List (Slot Pair)) (x : ℕ). getD t x stopped) (slots-rows ds) e ∙ row-at slotOf 24 ds (h / hoursOfDay) (h % hoursOfDay) noDay stopped k (mod-lt h (zero-lt-suc 23))
 
-    mask-day : (f : Day → ℕ) → getD (rows (λ d k. f d) 1 ds) (h / 24) 0 ≡ f (dayAt ds h)
+    mask-day : (f : Day → ℕ) → getD (rows (λ d k. f d) 1 ds) (h / hoursOfDay) 0 ≡ f (dayAt ds h)
     unfolding dayAt
     mask-day f =
-        let e : h / 24 ≡ 1 * (h / 24) + 0 = omega arith in
-        let k : h / 24 < length ds = omega arith in
-        ap (λ (x : ℕ). getD (rows (λ d k. f d) 1 ds) x 0) e ∙ row-at (λ d k. f d) 1 ds (h / 24) 0 noDay 0 k (zero-lt-suc 0)
+        let e : h / hoursOfDay ≡ 1 * (h / hoursOfDay) + 0 = omega arith in
+        let k : h / hoursOfDay < length ds = omega arith in
+        ap (λ (x : ℕ). getD (rows (λ d k. f d) 1 ds) x 0) e ∙ row-at (λ d k. f d) 1 ds (h / hoursOfDay) 0 noDay 0 k (zero-lt-suc 0)
 
-    pub run-day : getD (runMasks ds) (h / 24) 0 ≡ dayAt ds h .masks .run
-    run-day = ap (λ (t : List ℕ). getD t (h / 24) 0) (runs-rows ds) ∙ mask-day (λ d. d .masks .run)
+    pub run-day : getD (runMasks ds) (h / hoursOfDay) 0 ≡ dayAt ds h .masks .run
+    run-day = ap (λ (t : List ℕ). getD t (h / hoursOfDay) 0) (runs-rows ds) ∙ mask-day (λ d. d .masks .run)
 
-    pub measured-day : getD (measuredMasks ds) (h / 24) 0 ≡ dayAt ds h .masks .measured
-    measured-day = ap (λ (t : List ℕ). getD t (h / 24) 0) (measured-rows ds) ∙ mask-day (λ d. d .masks .measured)
+    pub measured-day : getD (measuredMasks ds) (h / hoursOfDay) 0 ≡ dayAt ds h .masks .measured
+    measured-day = ap (λ (t : List ℕ). getD t (h / hoursOfDay) 0) (measured-rows ds) ∙ mask-day (λ d. d .masks .measured)
 
-  module _ (l : 24 * length ds ≤ h) where
+  module _ (l : hoursOfDay * length ds ≤ h) where
     pub slot-past : getD (slotsOf ds) h stopped ≡ stopped
     slot-past = List·getD-eq-default (slotsOf ds) stopped (let j : length (slotsOf ds) ≤ h = omega (arith, length-slots ds) in j)
 
-    pub run-past : getD (runMasks ds) (h / 24) 0 ≡ 0
-    run-past = List·getD-eq-default (runMasks ds) 0 (let j : length (runMasks ds) ≤ h / 24 = omega (arith, length-runs ds) in j)
+    pub run-past : getD (runMasks ds) (h / hoursOfDay) 0 ≡ 0
+    run-past = List·getD-eq-default (runMasks ds) 0 (let j : length (runMasks ds) ≤ h / hoursOfDay = omega (arith, length-runs ds) in j)
 
-    pub measured-past : getD (measuredMasks ds) (h / 24) 0 ≡ 0
-    measured-past = List·getD-eq-default (measuredMasks ds) 0 (let j : length (measuredMasks ds) ≤ h / 24 = omega (arith, length-measured ds) in j)
+    pub measured-past : getD (measuredMasks ds) (h / hoursOfDay) 0 ≡ 0
+    measured-past = List·getD-eq-default (measuredMasks ds) 0 (let j : length (measuredMasks ds) ≤ h / hoursOfDay = omega (arith, length-measured ds) in j)

@@ -158,7 +158,7 @@ module _ (v : View) where
   survey-ok : (runs : List ℕ) (floor : ℕ) (s : Survey) → ((i : ℕ) → getD (surveyTests v floor (s .hour)) i true ≡ true) → judgeSurvey v runs s ≡ fine → SurveyOk v s
   unfolding judgeSurvey surveyTests surveysLeft
   survey-ok runs floor s p e =
-      let a = passed 3 0 (ltb (s .hour) (24 * v .head .days)) _ refl e in
+      let a = passed 3 0 (ltb (s .hour) (hoursOfDay * v .head .days)) _ refl e in
       let both = both-passed (judgePair (s .pair)) (judgeStopped runs (s .hour)) (pair-stands (s .pair)) (a .1) in
       record { inside = p 0; days-done = eqb-true _ _ (p 1); room = ltb-true _ _ (p 4); in-period = ltb-true _ _ (a .0); pair = pair-accepted (s .pair) (both .0) }
 

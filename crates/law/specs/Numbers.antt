@@ -66,3 +66,10 @@ perGram = 100_000
 -- no line states more grams than this, so that the totals of 48 lines fit
 abbrev pub mostGrams : ℕ
 mostGrams = 20_000_000_000_000
+
+-- "gap of 24 or fewer"; "the last 720 valid hours"
+abbrev pub shortGap : ℕ
+shortGap = 24
+
+abbrev pub longWindow : ℕ
+longWindow = 720

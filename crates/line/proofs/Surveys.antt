@@ -7,6 +7,7 @@ use lib.ListN.{length, getD, set}
 use lib.Seq.{set-out}
 use lib.Dec.{eqb}
 use borrow.Author.Tests.{lt-ltb, le-ltb}
+use Rattle.law.specs.Numbers.{mostHours}
 use Rattle.law.proofs.Tests.{pick-case}
 use Rattle.reading.specs.declared.FlaggedPair.{FlaggedPair}
 use Rattle.reading.specs.Reading.{flaggedPair, flaggedHour}
@@ -24,13 +25,13 @@ module _ (t : Survey) (r : FlaggedPair) (e : r ≡ flaggedHour (measuredOf (t .p
   flow-is = ap (λ (f : FlaggedPair). f .flow) e
 
 -- ---- an hour's flag: within the quarter, and past it
-pub beats-within : (flags : List ℕ) (h : ℕ) → h < 2_208 → eqb (getD flags h 0) 1 ≡ beats flags h
+pub beats-within : (flags : List ℕ) (h : ℕ) → h < mostHours → eqb (getD flags h 0) 1 ≡ beats flags h
 unfolding beats
-beats-within flags h l = sym (ap (λ (t : Bool). t && eqb (getD flags h 0) 1) (lt-ltb h 2_208 l))
+beats-within flags h l = sym (ap (λ (t : Bool). t && eqb (getD flags h 0) 1) (lt-ltb h mostHours l))
 
-pub beats-past : (flags : List ℕ) (h : ℕ) → 2_208 ≤ h → false ≡ beats flags h
+pub beats-past : (flags : List ℕ) (h : ℕ) → mostHours ≤ h → false ≡ beats flags h
 unfolding beats
-beats-past flags h l = sym (ap (λ (t : Bool). t && eqb (getD flags h 0) 1) (le-ltb h 2_208 l))
+beats-past flags h l = sym (ap (λ (t : Bool). t && eqb (getD flags h 0) 1) (le-ltb h mostHours l))
 
 -- an hour past the cells is not replaced
 pub replaced-past : (measured : Bool) (h v : ℕ) (cells : List ℕ) → length cells ≤ h → cells ≡ replacedCell measured h v cells

@@ -5,6 +5,7 @@ use mathlib.Core.List.{List}
 use mathlib.Core.Path.{_≡_}
 use lib.ListN.{getD, set}
 use lib.Dec.{eqb, ltb}
+use Rattle.law.specs.Numbers.{mostHours}
 use Rattle.law.specs.Words.{pick}
 use Rattle.reading.specs.Reading.{reading, concentrationOf, flowOf, flaggedOf}
 use Rattle.rules.specs.declared.Survey.{Survey}
@@ -36,7 +37,7 @@ pub record SurveyPut (t : Survey) (measured : Bool) (conc flow conc' flow' : Lis
 
 -- whether an hour has an enforcement survey, by the flags of a quarter's hours
 unfoldable pub beats : List ℕ → ℕ → Bool
-beats flags h = ltb h 2_208 && eqb (getD flags h 0) 1
+beats flags h = ltb h mostHours && eqb (getD flags h 0) 1
 
 -- a plant survey: beaten by an enforcement survey at its hour, or one that stands
 pub record PlantPut (t : Survey) (beaten measured : Bool) (conc flow conc' flow' : List ℕ) (r : Weighed) : Type 0 where

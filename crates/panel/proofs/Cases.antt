@@ -9,6 +9,7 @@ use native.Mathlib.Omega.{arith}
 use lib.Dec.{T, leb, leb→le, nleb→lt}
 use lib.Ieee.{Float, binary64, fits}
 use lib.Ieee.Exact.{HasValue}
+use Rattle.law.specs.Numbers.{mostHours}
 use Rattle.reading.specs.declared.Hour.{Hour}
 use Rattle.reading.specs.declared.Figures.{Figures}
 use Rattle.reading.specs.declared.Figures.the-variants.{Both, NoData, NotRunning, Unfit}
@@ -38,8 +39,8 @@ pub data Taken (p : Panel) : Figures → Stepped → Type 0 where
 
 pub data Promise (p : Panel) (h : Hour) : Stepped → Type 0 where
   unlawful : lawful p ≡ false → Promise p h (unchanged 12 p)
-  full : lawful p ≡ true → 2_208 ≤ p .hours → Promise p h (unchanged 11 p)
-  room : {r : Stepped} → lawful p ≡ true → p .hours < 2_208 → Taken p (figuresOf h) r → Promise p h r
+  full : lawful p ≡ true → mostHours ≤ p .hours → Promise p h (unchanged 11 p)
+  room : {r : Stepped} → lawful p ≡ true → p .hours < mostHours → Taken p (figuresOf h) r → Promise p h r
 
 -- ---- an answer that keeps it is the rule's
 taken-is : (p : Panel) (f : Figures) (r : Stepped) → Taken p f r → r ≡ afterHour p f
@@ -80,12 +81,12 @@ takes p (Both c l) = go (le-or (whole (p .total) + c * l) (2 ^ 53))
 pub meets : (p : Panel) (h : Hour) → Promise p h (panelStep p h)
 meets p h = go (lawful p) refl
   where
-    within : lawful p ≡ true → (2_208 ≤ p .hours) ⊎ (p .hours < 2_208) → Promise p h (panelStep p h)
+    within : lawful p ≡ true → (mostHours ≤ p .hours) ⊎ (p .hours < mostHours) → Promise p h (panelStep p h)
     within e (inl g) = rw (step-full p h e g) (full e g)
     within e (inr g) = rw (step-room p h e g) (room e g (takes p (figuresOf h)))
 
     go : (b : Bool) → lawful p ≡ b → Promise p h (panelStep p h)
-    go true e = within e (le-or 2_208 (p .hours))
+    go true e = within e (le-or mostHours (p .hours))
     go false e = rw (step-unlawful p h e) (unlawful e)
 
 -- ---- a refusal, any number but 0, leaves the state as it was
@@ -107,7 +108,7 @@ pub refused-same : (p : Panel) (h : Hour) → (panelStep p h .number ≡ 0 → �
 refused-same p h n = promise-same p h (panelStep p h) (meets p h) n
 
 -- ---- a lawful panel stays lawful
-stays : (p : Panel) (f : Figures) (r : Stepped) → T (lawful p) → p .hours < 2_208 → Taken p f r → T (lawful (r .next))
+stays : (p : Panel) (f : Figures) (r : Stepped) → T (lawful p) → p .hours < mostHours → Taken p f r → T (lawful (r .next))
 unfolding unchanged counted
 stays p f r l g unfit = l
 stays p f r l g missed = lawful-of (r .next) (lawful-total p l) (omega arith) (omega (arith, missing-le p l))

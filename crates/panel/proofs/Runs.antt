@@ -10,6 +10,7 @@ use native.Mathlib.Omega.{arith}
 use lib.ListN.{length}
 use lib.Ieee.Bits.{is-true}
 use lib.Ieee.Exact.{HasValue}
+use Rattle.law.specs.Numbers.{mostHours}
 use Rattle.law.specs.Words.{sumOf}
 use Rattle.reading.specs.declared.Hour.{Hour}
 use Rattle.reading.specs.declared.Figures.{Figures}
@@ -27,7 +28,7 @@ use Rattle.panel.proofs.Cases.{Taken, unfit, missed, stopped, over, sum
 -- three whole numbers within their bounds, and the panel of them
 pub record Fit (total hours missing : ℕ) : Type 0 where
   pub total-le : total ≤ 2 ^ 53
-  pub hours-le : hours ≤ 2_208
+  pub hours-le : hours ≤ mostHours
   pub missing-le : missing ≤ hours
 
 abbrev pub panelOf : ℕ → ℕ → ℕ → Panel
@@ -49,7 +50,7 @@ abbrev on : ℕ → ℕ → ℕ → Figures → Stepped
 on t n m f = record { number = 0; next = panelOf (t + product f) (n + 1) (m + missingHour f) }
 
 module _ (t n m : ℕ) (k : Fit t n m) where
-  on-fit : (f : Figures) → n < 2_208 → t + product f ≤ 2 ^ 53 → Fit (t + product f) (n + 1) (m + missingHour f)
+  on-fit : (f : Figures) → n < mostHours → t + product f ≤ 2 ^ 53 → Fit (t + product f) (n + 1) (m + missingHour f)
   on-fit f g s = record { total-le = s; hours-le = omega arith; missing-le = omega (arith, missing-one f, k .missing-le) }
 
   of-lawful : lawful (panelOf t n m) ≡ true
@@ -64,7 +65,7 @@ module _ (t n m : ℕ) (k : Fit t n m) where
       let w = whole-of t (k .total-le) in
       added-sum (panelOf t n m) (c * l) (subst (λ (j : ℕ). j + c * l ≤ 2 ^ 53) (sym w) s) ∙ simp (w, add-zero)
 
-  step-on : (h : Hour) → n < 2_208 → statedHour (figuresOf h) .number ≡ 0 → t + product (figuresOf h) ≤ 2 ^ 53 → panelStep (panelOf t n m) h ≡ on t n m (figuresOf h)
+  step-on : (h : Hour) → n < mostHours → statedHour (figuresOf h) .number ≡ 0 → t + product (figuresOf h) ≤ 2 ^ 53 → panelStep (panelOf t n m) h ≡ on t n m (figuresOf h)
   step-on h g b s = step-room (panelOf t n m) h of-lawful g ∙ taken-on (figuresOf h) b s
 
   -- what an hour that is not refused says
@@ -76,11 +77,11 @@ module _ (t n m : ℕ) (k : Fit t n m) where
   taken-says f r (over o) e = absurd (not-zero 9 e)
   taken-says f r (sum {c} {l} x o g v) e = (refl, subst (λ (j : ℕ). j + c * l ≤ 2 ^ 53) (whole-of t (k .total-le)) o)
 
-  step-says : (h : Hour) → panelStep (panelOf t n m) h .number ≡ 0 → (n < 2_208) × (statedHour (figuresOf h) .number ≡ 0) × (t + product (figuresOf h) ≤ 2 ^ 53)
+  step-says : (h : Hour) → panelStep (panelOf t n m) h .number ≡ 0 → (n < mostHours) × (statedHour (figuresOf h) .number ≡ 0) × (t + product (figuresOf h) ≤ 2 ^ 53)
   unfolding unchanged
   step-says h e = go (panelStep (panelOf t n m) h) (meets (panelOf t n m) h) e
     where
-      go : (r : Stepped) → Promise (panelOf t n m) h r → r .number ≡ 0 → (n < 2_208) × (statedHour (figuresOf h) .number ≡ 0) × (t + product (figuresOf h) ≤ 2 ^ 53)
+      go : (r : Stepped) → Promise (panelOf t n m) h r → r .number ≡ 0 → (n < mostHours) × (statedHour (figuresOf h) .number ≡ 0) × (t + product (figuresOf h) ≤ 2 ^ 53)
       go r (unlawful l) z = absurd (not-zero 11 z)
       go r (full l g) z = absurd (not-zero 10 z)
       go r (room l g u) z = let a = taken-says (figuresOf h) r u z in (g, a .0, a .1)
@@ -106,13 +107,13 @@ exact t n m k (h ∷ hs) r =
     let o : m + missingHour f + missingHours hs ≡ m + (missingHour f + missingHours hs) = omega arith in
     (ap (λ (s : Stepped). after (s .next) hs) e ∙ u .0 ∙ rw (p, q, o), rw (← p, ← q, ← o) (u .1), (a .1, u .2))
 
-accepts : (t n m : ℕ) → Fit t n m → (hs : List Hour) → NoneBad hs → t + products hs ≤ 2 ^ 53 → n + length hs ≤ 2_208 → NoneRefused (panelOf t n m) hs
+accepts : (t n m : ℕ) → Fit t n m → (hs : List Hour) → NoneBad hs → t + products hs ≤ 2 ^ 53 → n + length hs ≤ mostHours → NoneRefused (panelOf t n m) hs
 unfolding NoneRefused NoneBad sumOf
 accepts t n m k [] b s g = tt
 accepts t n m k (h ∷ hs) b s g =
     let f = figuresOf h in
     let i : t + product f ≤ 2 ^ 53 = omega arith in
-    let j : n < 2_208 = omega arith in
+    let j : n < mostHours = omega arith in
     rw (step-on t n m k h j (b .0) i) (refl, accepts (t + product f) (n + 1) (m + missingHour f) (on-fit t n m k f j i) hs (b .1) (omega arith) (omega arith))
 
 -- ---- from the empty panel
@@ -146,6 +147,6 @@ module _ (hs : List Hour) (r : NoneRefused emptyPanel hs) where
   run-value = subst (λ (p : Panel). HasValue (p .total) false (products hs) 1) (sym run-exact) (value (products hs) (run-fits .total-le))
 
 -- no bad reading, at most 2,208 hours and a sum within 2 ^ 53: nothing is refused
-pub run-accepts : (hs : List Hour) → NoneBad hs → length hs ≤ 2_208 → products hs ≤ 2 ^ 53 → NoneRefused emptyPanel hs
+pub run-accepts : (hs : List Hour) → NoneBad hs → length hs ≤ mostHours → products hs ≤ 2 ^ 53 → NoneRefused emptyPanel hs
 unfolding emptyPanel
 run-accepts hs b g s = accepts 0 0 0 none-fit hs b (omega arith) (omega arith)

@@ -2,6 +2,7 @@
 use Prim.Native.Nat.{ℕ, _+_, _*_, _^_}
 use lib.Dec.{leb, ltb}
 use lib.Ieee.{Float}
+use Rattle.law.specs.Numbers.{mostHours}
 use Rattle.law.specs.Words.{need}
 use Rattle.reading.specs.declared.Hour.{Hour}
 use Rattle.reading.specs.declared.Figures.{Figures}
@@ -33,7 +34,7 @@ afterHour p Unfit = unchanged (statedHour Unfit .number) p
 
 -- "panel: 12, 11, 4, 10"
 unfoldable pub panelStep : Panel → Hour → Stepped
-panelStep p hour = need (unchanged 12 p) (lawful p) (need (unchanged 11 p) (ltb (p .hours) 2_208) (afterHour p (figuresOf hour)))
+panelStep p hour = need (unchanged 12 p) (lawful p) (need (unchanged 11 p) (ltb (p .hours) mostHours) (afterHour p (figuresOf hour)))
 
 -- a panel before any hour
 unfoldable pub emptyPanel : Panel

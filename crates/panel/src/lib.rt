@@ -2,6 +2,7 @@
 ghost use mathlib.Core.Path.{_≡_};
 ghost use mathlib.Core.Bool.{true};
 ghost use Prim.Native.Nat.{_*_, _<_};
+ghost use Rattle.law.specs.Numbers.{mostHours};
 ghost use Rattle.panel.specs.Lawful.{lawfulTotal};
 ghost use Rattle.panel.specs.Panel.{unchanged, counted, added, panelStep, emptyPanel};
 use reading::Figures;
@@ -43,7 +44,7 @@ impl Panel {
 
     // "1 to the hours."
     fn count(mut self) -> Stepped
-        requires { ⌜ self .hours < 2208 ⌝ }
+        requires { ⌜ self .hours < mostHours ⌝ }
         ensures { λ r. ⌜ r ≡ counted self (self .total) (self .missing) ⌝ }
     {
         self.hours += 1;
@@ -55,7 +56,7 @@ impl Panel {
 
     // 10, or the product added to the total. The limit is tested in whole numbers: as an f64, 2^53 + 1 is 2^53.
     fn add(mut self, c: u32, l: u32) -> Stepped
-        requires { ⌜ (lawfulTotal (self .total) ≡ true) × (self .hours < 2208) ⌝ }
+        requires { ⌜ (lawfulTotal (self .total) ≡ true) × (self .hours < mostHours) ⌝ }
         ensures { λ r. ⌜ r ≡ added self (c * l) ⌝ }
     {
         let product = (c as u64) * (l as u64);

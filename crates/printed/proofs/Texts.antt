@@ -5,6 +5,7 @@ use Prim.Native.Nat.{ℕ, _<_, _≤_}
 use native.Mathlib.Omega.{arith}
 use lib.ListN.{length}
 use borrow.Author.Tests.{le-leb}
+use Rattle.law.specs.Numbers.{mostHours, mostCells}
 use Rattle.law.proofs.Tests.{need-le, need-not-le}
 use Rattle.rules.specs.declared.Answer.{Answer}
 use Rattle.rules.specs.Lines.{Line}
@@ -33,14 +34,14 @@ rows-text (x ∷ xs) rest =
 
 -- ---- the answer
 module _ (file rows conc flow : List ℕ) (a : Answer) (rows' conc' flow' : List ℕ) (p : Promise file rows conc flow a rows' conc' flow') where
-  pub answer-refused : length rows ≡ 336 → length conc ≡ 2_208 → length flow ≡ 2_208 → (a .number ≡ 0 → ⊥) → refusedLine (refuse (a .number) (a .place)) ≡ printedFrom (outcome file)
+  pub answer-refused : length rows ≡ mostCells → length conc ≡ mostHours → length flow ≡ mostHours → (a .number ≡ 0 → ⊥) → refusedLine (refuse (a .number) (a .place)) ≡ printedFrom (outcome file)
   unfolding printedFrom refuse refusal workFits
   answer-refused l c f n =
-      let d = denied file rows a rows' conc flow conc' flow' p (omega (arith, l)) (rw (le-leb 2_208 (length conc) (omega (arith, c)), le-leb 2_208 (length flow) (omega (arith, f)))) n in
+      let d = denied file rows a rows' conc flow conc' flow' p (omega (arith, l)) (rw (le-leb mostHours (length conc) (omega (arith, c)), le-leb mostHours (length flow) (omega (arith, f)))) n in
       let said : refuse (a .number) (a .place) ≡ d .fault = ap (λ (b : Answer). refuse (b .number) (b .place)) (d .answers) in
       ap refusedLine said ∙ ap printedFrom (sym (d .refused))
 
-  pub answer-stated : a .number ≡ 0 → length rows' ≡ 336 → statedLines rows' (a .rows) (a .totals) ≡ printedFrom (outcome file)
+  pub answer-stated : a .number ≡ 0 → length rows' ≡ mostCells → statedLines rows' (a .rows) (a .totals) ≡ printedFrom (outcome file)
   unfolding printedFrom statedText totalLine acceptance
   answer-stated z l =
       let s = stated file rows a rows' conc flow conc' flow' p z in

@@ -8,6 +8,7 @@ use lib.ListN.{length, take, drop, getD, length-append, length-drop}
 use lib.Seq.{take-at, drop-at}
 use lib.Dec.{leb}
 use borrow.Author.Tests.{le-leb, lt-leb, leb-true}
+use Rattle.law.specs.Numbers.{mostHours, mostCells}
 use Rattle.law.specs.Words.{need, over}
 use Rattle.law.proofs.Tables.{table-is}
 use Rattle.rules.specs.declared.Answer.{Answer}
@@ -24,15 +25,15 @@ use Rattle.walk.proofs.Going.{zeros}
 use Rattle.walk.proofs.Promises.{no-rows-long}
 
 -- the first 2,208 cells cleared hold no line's hours
-pub cleared : (xs ys : List ℕ) → 2_208 ≤ length xs → ys ≡ over (λ h. 0) (min 2_208 (length xs)) xs → ys ≡ cells [] ++ drop 2_208 xs
+pub cleared : (xs ys : List ℕ) → mostHours ≤ length xs → ys ≡ over (λ h. 0) (min mostHours (length xs)) xs → ys ≡ cells [] ++ drop mostHours xs
 unfolding cells
-cleared xs ys l e = e ∙ first-all xs 2_208 l ∙ ap (λ (t : List ℕ). t ++ drop 2_208 xs) (zeros 2_208)
+cleared xs ys l e = e ∙ first-all xs mostHours l ∙ ap (λ (t : List ℕ). t ++ drop mostHours xs) (zeros mostHours)
 
 -- the cells past 2,208 stand as they were
-past-kept : (cs xs ys : List ℕ) → ys ≡ cs ++ drop 2_208 xs → length ys ≡ length xs → 2_208 ≤ length xs → drop 2_208 ys ≡ drop 2_208 xs
+past-kept : (cs xs ys : List ℕ) → ys ≡ cs ++ drop mostHours xs → length ys ≡ length xs → mostHours ≤ length xs → drop mostHours ys ≡ drop mostHours xs
 past-kept cs xs ys e l m =
-    let n : length cs ≡ 2_208 = omega (arith, ap length e, length-append cs (drop 2_208 xs), length-drop 2_208 xs, l, m) in
-    ap (drop 2_208) e ∙ drop-at cs (drop 2_208 xs) 2_208 n
+    let n : length cs ≡ mostHours = omega (arith, ap length e, length-append cs (drop mostHours xs), length-drop mostHours xs, l, m) in
+    ap (drop mostHours) e ∙ drop-at cs (drop mostHours xs) mostHours n
 
 -- the rows that are copied are those of the lines
 copied : (lines : List Line) (t rows rows' : List ℕ) (n : ℕ) → n ≡ 7 * length lines → t ≡ rowsOf lines ++ drop (7 * length lines) noRows → n ≤ length rows
@@ -55,14 +56,14 @@ module _ (file conc flow : List ℕ) (a : Answer) (t conc' flow' : List ℕ) (p 
   work-fits : a .number ≡ 0 → workFits (length conc) (length flow) ≡ true
   work-fits z = work-by (workFits (length conc) (length flow)) refl z
 
-  lengths-by : (b d : Bool) → leb 2_208 (length conc) ≡ b → leb 2_208 (length flow) ≡ d → workFits (length conc) (length flow) ≡ true → (2_208 ≤ length conc) × (2_208 ≤ length flow)
+  lengths-by : (b d : Bool) → leb mostHours (length conc) ≡ b → leb mostHours (length flow) ≡ d → workFits (length conc) (length flow) ≡ true → (mostHours ≤ length conc) × (mostHours ≤ length flow)
   unfolding workFits
-  lengths-by true true e f w = (leb-true 2_208 (length conc) e, leb-true 2_208 (length flow) f)
+  lengths-by true true e f w = (leb-true mostHours (length conc) e, leb-true mostHours (length flow) f)
   lengths-by true false e f w = absurd (true≢false (sym w ∙ rw (e, f)))
   lengths-by false d e f w = absurd (true≢false (sym w ∙ rw e))
 
-  pub lent : a .number ≡ 0 → (2_208 ≤ length conc) × (2_208 ≤ length flow)
-  lent z = lengths-by (leb 2_208 (length conc)) (leb 2_208 (length flow)) refl refl (work-fits z)
+  pub lent : a .number ≡ 0 → (mostHours ≤ length conc) × (mostHours ≤ length flow)
+  lent z = lengths-by (leb mostHours (length conc)) (leb mostHours (length flow)) refl refl (work-fits z)
 
   lines-of : a .number ≡ 0 → Stated file noRows a t
   lines-of z = stated file noRows a t conc flow conc' flow' p z
@@ -71,10 +72,10 @@ module _ (file conc flow : List ℕ) (a : Answer) (t conc' flow' : List ℕ) (p 
   unfolding acceptance
   rows-are z = ap (λ (b : Answer). b .rows) (lines-of z .answers)
 
-  pub rows-most : a .number ≡ 0 → 7 * a .rows ≤ 336
+  pub rows-most : a .number ≡ 0 → 7 * a .rows ≤ mostCells
   rows-most z = omega (arith, rows-are z, lines-of z .most)
 
-  pub table-long : a .number ≡ 0 → length t ≡ 336
+  pub table-long : a .number ≡ 0 → length t ≡ mostCells
   table-long z =
       let s = lines-of z in
       ap length (s .leaves) ∙ length-append (rowsOf (s .lines)) (drop (7 * length (s .lines)) noRows)
@@ -83,11 +84,11 @@ module _ (file conc flow : List ℕ) (a : Answer) (t conc' flow' : List ℕ) (p 
   fits-table : (z : a .number ≡ 0) → leb (7 * length (lines-of z .lines)) (length noRows) ≡ true
   fits-table z = le-leb (7 * length (lines-of z .lines)) (length noRows) (omega (arith, lines-of z .most, no-rows-long))
 
-  conc-held : (z : a .number ≡ 0) → conc' ≡ concentrationCells (lines-of z .lines) ++ drop 2_208 conc
+  conc-held : (z : a .number ≡ 0) → conc' ≡ concentrationCells (lines-of z .lines) ++ drop mostHours conc
   unfolding workAfter cellsFrom rowsFit need
   conc-held z = p .concentrationsHold ∙ rw (work-fits z, lines-of z .accepted, fits-table z)
 
-  flow-held : (z : a .number ≡ 0) → flow' ≡ flowCells (lines-of z .lines) ++ drop 2_208 flow
+  flow-held : (z : a .number ≡ 0) → flow' ≡ flowCells (lines-of z .lines) ++ drop mostHours flow
   unfolding workAfter cellsFrom rowsFit need
   flow-held z = p .flowsHold ∙ rw (work-fits z, lines-of z .accepted, fits-table z)
 
@@ -111,7 +112,7 @@ module _ (file conc flow : List ℕ) (a : Answer) (t conc' flow' : List ℕ) (p 
 
     -- 8: the file is accepted, and too few cells are lent for its rows
     pub promise-8 : (z : a .number ≡ 0) → length rows < 7 * a .rows → (r : Answer) (cs fs : List ℕ) → length conc' ≡ length conc → length flow' ≡ length flow
-        → r ≡ refusal (refuse 8 0) → cs ≡ cells [] ++ drop 2_208 conc' → fs ≡ cells [] ++ drop 2_208 flow' → Promise file rows conc flow r rows cs fs
+        → r ≡ refusal (refuse 8 0) → cs ≡ cells [] ++ drop mostHours conc' → fs ≡ cells [] ++ drop mostHours flow' → Promise file rows conc flow r rows cs fs
     unfolding answerOf rowsAfter workAfter answerFrom rowsFrom cellsFrom rowsFit need
     promise-8 z l r cs fs lc lf q c f =
         let s = lines-of z in

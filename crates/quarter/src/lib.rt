@@ -4,6 +4,7 @@ ghost use mathlib.Core.Path.{_≡_};
 ghost use mathlib.Core.List.{[], _++_};
 ghost use Prim.Native.Nat.{_≤_};
 ghost use lib.ListN.{length, drop};
+ghost use Rattle.law.specs.Numbers.{mostHours};
 ghost use Rattle.rules.specs.Row.{cells};
 ghost use Rattle.rules.specs.Judge.{refuse};
 ghost use Rattle.rules.specs.Account.{refusal, Promise};
@@ -18,10 +19,10 @@ const TOO_FEW: Answer = Answer {
 
 // 8: the first 2,208 cells of both work slices cleared, and the refusal answered.
 fn too_few_rows(concentrations: &mut [u32], flows: &mut [u32]) -> Answer
-    requires { ⌜ (2208 ≤ length (now concentrations)) × (2208 ≤ length (now flows)) ⌝ }
+    requires { ⌜ (mostHours ≤ length (now concentrations)) × (mostHours ≤ length (now flows)) ⌝ }
     ensures { λ r. ⌜ (r ≡ refusal (refuse 8 0))
-        × (now (concentrations .exit) ≡ cells [] ++ drop 2208 (now (concentrations .entry)))
-        × (now (flows .exit) ≡ cells [] ++ drop 2208 (now (flows .entry))) ⌝ }
+        × (now (concentrations .exit) ≡ cells [] ++ drop mostHours (now (concentrations .entry)))
+        × (now (flows .exit) ≡ cells [] ++ drop mostHours (now (flows .entry))) ⌝ }
 {
     cells::clear_quarter(concentrations);
     cells::clear_quarter(flows);

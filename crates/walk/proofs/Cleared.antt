@@ -8,6 +8,7 @@ use lib.ListN.{length, drop, getD, replicate, length-append, length-drop, length
 use lib.Seq.{getD-append-add, getD-drop}
 use lib.Dec.{ltb}
 use borrow.Author.Tests.{ltb-true, ltb-false}
+use Rattle.law.specs.Numbers.{mostHours}
 use Rattle.law.specs.Words.{table, over}
 use Rattle.law.proofs.Tables.{table-is, table-at, table-length}
 use Rattle.law.proofs.Over.{over-all}
@@ -28,8 +29,8 @@ pub cells-past : (vs : List ℕ) (n h : ℕ) → length vs ≤ n → n ≤ h →
 unfolding cells
 cells-past vs n h l m =
     let i : h ≡ length vs + (h - length vs) = omega (arith, l, m) in
-    ap (λ (k : ℕ). getD (vs ++ replicate (2_208 - length vs) 0) k 0) i ∙ getD-append-add vs (replicate (2_208 - length vs) 0) (h - length vs) 0
-    ∙ replicate-zero (2_208 - length vs) (h - length vs)
+    ap (λ (k : ℕ). getD (vs ++ replicate (mostHours - length vs) 0) k 0) i ∙ getD-append-add vs (replicate (mostHours - length vs) 0) (h - length vs) 0
+    ∙ replicate-zero (mostHours - length vs) (h - length vs)
 
 module _ (xs : List ℕ) (n : ℕ) (past : (h : ℕ) → n ≤ h → getD xs h 0 ≡ 0) where
   over-zero : (k : ℕ) (t : Bool) → ltb k n ≡ t → getD (over (λ i. 0) n xs) k 0 ≡ 0
@@ -42,11 +43,11 @@ module _ (xs : List ℕ) (n : ℕ) (past : (h : ℕ) → n ≤ h → getD xs h 0
       let j : n + (k - n) ≡ k = omega (arith, l) in
       ap (λ (m : ℕ). getD (over (λ i. 0) n xs) m 0) i ∙ getD-append-add (table (λ i. 0) n) (drop n xs) (k - n) 0 ∙ getD-drop n xs (k - n) 0 ∙ ap (λ (m : ℕ). getD xs m 0) j ∙ past k l
 
-  pub cleared-all : length xs ≡ 2_208 → n ≤ 2_208 → over (λ i. 0) n xs ≡ table (λ i. 0) 2_208
+  pub cleared-all : length xs ≡ mostHours → n ≤ mostHours → over (λ i. 0) n xs ≡ table (λ i. 0) mostHours
   cleared-all e l =
-      table-is (λ i. 0) 2_208 0 (over (λ i. 0) n xs) (length-append (table (λ i. 0) n) (drop n xs) ∙ omega (arith, table-length {A = ℕ} (λ i. 0) n, length-drop n xs, e, l))
+      table-is (λ i. 0) mostHours 0 (over (λ i. 0) n xs) (length-append (table (λ i. 0) n) (drop n xs) ∙ omega (arith, table-length {A = ℕ} (λ i. 0) n, length-drop n xs, e, l))
       (λ k m. over-zero k (ltb k n) refl)
 
 -- a work slice of 2,208 cells that is cleared
-pub zeroed : (xs zs : List ℕ) → length xs ≡ 2_208 → zs ≡ over (λ h. 0) (min 2_208 (length xs)) xs → zs ≡ table (λ h. 0) 2_208
-zeroed xs zs l e = e ∙ first-all xs 2_208 (omega (arith, l)) ∙ over-all (λ h. 0) 2_208 xs (omega (arith, l))
+pub zeroed : (xs zs : List ℕ) → length xs ≡ mostHours → zs ≡ over (λ h. 0) (min mostHours (length xs)) xs → zs ≡ table (λ h. 0) mostHours
+zeroed xs zs l e = e ∙ first-all xs mostHours (omega (arith, l)) ∙ over-all (λ h. 0) mostHours xs (omega (arith, l))

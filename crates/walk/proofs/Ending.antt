@@ -10,7 +10,7 @@ use lib.ListN.{length, drop, getD, set, length-map, length-set, List·getD-eq-de
 use lib.Seq.{take-at, drop-at, drop-drop, getD-set-same, getD-set-other}
 use lib.Dec.{eqb}
 use borrow.Author.Tests.{eqb-true, eqb-false, eq-eqb, ne-eqb}
-use Rattle.law.specs.Numbers.{hoursOfDay, mostHours, rowCells, totalCells, perGram, mostGrams}
+use Rattle.law.specs.Numbers.{hoursOfDay, mostDays, mostHours, rowCells, totalCells, perGram, mostGrams}
 use Rattle.law.specs.Words.{need, pick, sumOf, table, over, halvesUp}
 use Rattle.law.proofs.Tables.{table-length, table-at, table-set}
 use Rattle.rules.specs.declared.Head.{Head}
@@ -60,7 +60,7 @@ pub cells-most : {value : ℕ → ℕ} {most : ℕ} {cells : List ℕ} → Cells
 cells-most {value} {most} c h = subst (λ (l : List ℕ). getD l h 0 ≤ most) (sym (c .hold)) (table-most value most (c .within) h (decLt h mostHours))
 
 -- ---- method 1: what is weighed is the sum of the filled hours
-module _ (x : Line) (few : length (x .days) ≤ 92) where
+module _ (x : Line) (few : length (x .days) ≤ mostDays) where
   weighed : periodWeight (length (x .days)) (filledCells (periodStates (runMasks (x .days)) (measuredMasks (x .days)) (length (x .days))) (table (λ h. valuesAt x h .c) mostHours)) (filledCells (periodStates (runMasks (x .days)) (measuredMasks (x .days)) (length (x .days))) (table (λ h. valuesAt x h .l) mostHours))
       ≡ sumOf amount (hourly filled x)
   weighed = ap₂ products (filled-concentrations x few .0) (filled-flows x few .0) ∙ sym (products-amounts (hourly filled x))
@@ -108,7 +108,7 @@ module _ (x : Line) (done : List Line) (v : View) (s : Sums) (o : Open) (d : Don
     (k : Kept (Inside x done) v s o d) (all-days : length (x .days) ≡ x .head .days)
     (entry : (method x ≡ 1 → ⊥) → (method x ≡ 2 → ⊥) → coefficientsOf (x .head) ≡ NoEntry → ⊥)
   where
-    few : length (x .days) ≤ 92
+    few : length (x .days) ≤ mostDays
     few = omega (arith, k .books .period)
 
     abbrev lineStates : List ℕ
@@ -156,8 +156,8 @@ module _ (x : Line) (done : List Line) (v : View) (s : Sums) (o : Open) (d : Don
           let z = eqb-true (method x) 1 t in
           let f = l .automatic (v-method ∙ z) in
           let state : ℕ → List ℕ = λ n. periodStates (runMasks (x .days)) (measuredMasks (x .days)) n in
-          let c : conc' ≡ filledCells (state (length (x .days))) (table (λ h. valuesAt x h .c) 2_208) = f .concentrations ∙ ap₂ (λ (n : ℕ) (t : List ℕ). filledCells (state n) t) v-days (k .books .concentrations .hold) in
-          let w : flow' ≡ filledCells (state (length (x .days))) (table (λ h. valuesAt x h .l) 2_208) = f .flows ∙ ap₂ (λ (n : ℕ) (t : List ℕ). filledCells (state n) t) v-days (k .books .flows .hold) in
+          let c : conc' ≡ filledCells (state (length (x .days))) (table (λ h. valuesAt x h .c) mostHours) = f .concentrations ∙ ap₂ (λ (n : ℕ) (t : List ℕ). filledCells (state n) t) v-days (k .books .concentrations .hold) in
+          let w : flow' ≡ filledCells (state (length (x .days))) (table (λ h. valuesAt x h .l) mostHours) = f .flows ∙ ap₂ (λ (n : ℕ) (t : List ℕ). filledCells (state n) t) v-days (k .books .flows .hold) in
           record {
             figure =
                 f .grams ∙ ap (λ (n : ℕ). halvesUp (periodWeight n conc' flow') perGram) v-days

@@ -6,6 +6,7 @@ use native.Mathlib.Omega.{arith}
 use lib.ListN.{length, length-append, take, drop, getD, replicate, length-take, length-drop, length-map, length-replicate, take-append-drop, getD-replicate, List·getD-map}
 use lib.Seq.{getD-take, getD-drop, ext-getD}
 use lib.Dec.{eqb}
+use Rattle.law.specs.Numbers.{hoursOfDay, mostDays, mostHours}
 use Rattle.law.specs.Words.{pick, table}
 use Rattle.law.proofs.Tests.{pick-case}
 use Rattle.law.proofs.Tables.{table-length, table-at, table-is}
@@ -44,7 +45,7 @@ module _ (es ps : List Survey) where
 
 module _ (x : Line) where
   abbrev N : ℕ
-  N = 24 * length (x .days)
+  N = hoursOfDay * length (x .days)
 
   abbrev slotNow : ℕ → Slot Pair
   slotNow h = replaced (x .enforcement) (x .plant) h (getD (slotsOf (x .days)) h stopped)
@@ -94,12 +95,12 @@ stopped-zero f z stopped e = z
 
 -- ---- one quantity f of the line's hours: states and cells are its slots
 abbrev pub lineStates : Line → List ℕ
-lineStates x = table (stateAt (runMasks (x .days)) (measuredMasks (x .days))) (24 * length (x .days))
+lineStates x = table (stateAt (runMasks (x .days)) (measuredMasks (x .days))) (hoursOfDay * length (x .days))
 
 abbrev pub lineValues : (Values → ℕ) → Line → List ℕ
-lineValues f x = table (λ h. f (valuesAt x h)) 2_208
+lineValues f x = table (λ h. f (valuesAt x h)) mostHours
 
-module _ (x : Line) (few : length (x .days) ≤ 92) (f : Values → ℕ) (zero-f : f zeroes ≡ 0) where
+module _ (x : Line) (few : length (x .days) ≤ mostDays) (f : Values → ℕ) (zero-f : f zeroes ≡ 0) where
   abbrev states : List ℕ
   states = lineStates x
 
@@ -112,7 +113,7 @@ module _ (x : Line) (few : length (x .days) ≤ 92) (f : Values → ℕ) (zero-f
   slot-is : (h : ℕ) → h < N x → slotAt states values h ≡ mapSlot f (mapSlot valuesOf (slotNow x h))
   unfolding slotAt slotIn valuesAt
   slot-is h l =
-      ap₂ (λ (s v : ℕ). slotIn s v) (table-at (stateAt (runMasks (x .days)) (measuredMasks (x .days))) (N x) h 0 l) (table-at (λ k. f (valuesAt x k)) 2_208 h 0 (omega arith))
+      ap₂ (λ (s v : ℕ). slotIn s v) (table-at (stateAt (runMasks (x .days)) (measuredMasks (x .days))) (N x) h 0 l) (table-at (λ k. f (valuesAt x k)) mostHours h 0 (omega arith))
       ∙ ap (λ (s : ℕ). slotIn s (f (inCell (slotNow x h)))) (sym (replaced-state (x .enforcement) (x .plant) h (getD (slotsOf (x .days)) h stopped) ∙ state-slot (x .days) h))
       ∙ sym (slot-by f (slotNow x h))
 
@@ -127,16 +128,16 @@ module _ (x : Line) (few : length (x .days) ≤ 92) (f : Values → ℕ) (zero-f
   unfolding valuesAt
   still h l e =
       let m : h < N x = omega (arith, all-hours) in
-      table-at (λ k. f (valuesAt x k)) 2_208 h 0 (omega arith) ∙ stopped-zero f zero-f (slotNow x h) (sym (slot-is h m) ∙ e)
+      table-at (λ k. f (valuesAt x k)) mostHours h 0 (omega arith) ∙ stopped-zero f zero-f (slotNow x h) (sym (slot-is h m) ∙ e)
 
   -- the hours behind the period hold nothing
-  pub rest-zero : drop (N x) values ≡ replicate (2_208 - N x) 0
+  pub rest-zero : drop (N x) values ≡ replicate (mostHours - N x) 0
   rest-zero =
-      ext-getD 0 (drop (N x) values) (replicate (2_208 - N x) 0) (simp (length-drop, length-replicate) (omega (arith, table-length (λ h. f (valuesAt x h)) 2_208)))
+      ext-getD 0 (drop (N x) values) (replicate (mostHours - N x) 0) (simp (length-drop, length-replicate) (omega (arith, table-length (λ h. f (valuesAt x h)) mostHours)))
       (λ h l.
-      let m : N x + h < 2_208 = omega (arith, length-drop (N x) values, table-length (λ h. f (valuesAt x h)) 2_208) in
-      getD-drop (N x) values h 0 ∙ table-at (λ k. f (valuesAt x k)) 2_208 (N x + h) 0 m ∙ ap f (past-zero x (N x + h) (omega arith)) ∙ zero-f
-      ∙ sym (getD-replicate (2_208 - N x) h 0 0 (omega arith)))
+      let m : N x + h < mostHours = omega (arith, length-drop (N x) values, table-length (λ h. f (valuesAt x h)) mostHours) in
+      getD-drop (N x) values h 0 ∙ table-at (λ k. f (valuesAt x k)) mostHours (N x + h) 0 m ∙ ap f (past-zero x (N x + h) (omega arith)) ∙ zero-f
+      ∙ sym (getD-replicate (mostHours - N x) h 0 0 (omega arith)))
 
   -- filled: each hour's entry, and nothing behind the period
   pub filled-cells : (es : List ℕ) → es ≡ entries (λ v. v) (fill meanUp same) 0 [] (map (mapSlot f) (slots x)) → (take (N x) (filledCells states values) ≡ es) × (filledCells states values ≡ cells es)
@@ -146,22 +147,22 @@ module _ (x : Line) (few : length (x .days) ≤ 92) (f : Values → ℕ) (zero-f
       ap (λ (k : ℕ). take k (filledCells states values)) (sym all-hours)
       ∙ filled-line states values still
       ∙ ap (entries (λ v. v) (fill meanUp same) 0 []) slots-are ∙ sym e in
-      let back : drop (N x) (filledCells states values) ≡ replicate (2_208 - N x) 0 =
+      let back : drop (N x) (filledCells states values) ≡ replicate (mostHours - N x) 0 =
       ap (λ (k : ℕ). drop k (filledCells states values)) (sym all-hours) ∙ filled-rest states values ∙ ap (λ (k : ℕ). drop k values) all-hours ∙ rest-zero in
       let long : length es ≡ N x = ap length e ∙ entries-length (λ v. v) (fill meanUp same) 0 [] (map (mapSlot f) (slots x)) ∙ length-map (slots x) (mapSlot f) ∙ slots-long x in
-      (front, sym (take-append-drop (N x) (filledCells states values)) ∙ ap₂ (λ (t u : List ℕ). t ++ u) front (back ∙ ap (λ (k : ℕ). replicate (2_208 - k) 0) (sym long)))
+      (front, sym (take-append-drop (N x) (filledCells states values)) ∙ ap₂ (λ (t u : List ℕ). t ++ u) front (back ∙ ap (λ (k : ℕ). replicate (mostHours - k) 0) (sym long)))
 
   -- not filled: the cells as they stand
   pub plain-cells : (es : List ℕ) → length es ≡ N x → ((h : ℕ) → h < N x → getD es h 0 ≡ f (valuesAt x h)) → values ≡ cells es
   unfolding cells
   plain-cells es long at =
-      let size : length values ≡ 2_208 = table-length (λ h. f (valuesAt x h)) 2_208 in
+      let size : length values ≡ mostHours = table-length (λ h. f (valuesAt x h)) mostHours in
       let front : take (N x) values ≡ es =
       ext-getD 0 (take (N x) values) es (simp length-take (omega arith))
       (λ h l.
       let m : h < N x = omega (arith, simp length-take at l) in
-      getD-take (N x) values h 0 m ∙ table-at (λ k. f (valuesAt x k)) 2_208 h 0 (omega arith) ∙ sym (at h m)) in
-      sym (take-append-drop (N x) values) ∙ ap₂ (λ (t u : List ℕ). t ++ u) front (rest-zero ∙ ap (λ (k : ℕ). replicate (2_208 - k) 0) (sym long))
+      getD-take (N x) values h 0 m ∙ table-at (λ k. f (valuesAt x k)) mostHours h 0 (omega arith) ∙ sym (at h m)) in
+      sym (take-append-drop (N x) values) ∙ ap₂ (λ (t u : List ℕ). t ++ u) front (rest-zero ∙ ap (λ (k : ℕ). replicate (mostHours - k) 0) (sym long))
 
 -- ---- both quantities
 entry-plain : (before after : List (Slot Values)) (o : Slot Pair) → entry (λ v. v) unfilled zeroes before (mapSlot valuesOf o) after ≡ inCell o
@@ -170,7 +171,7 @@ entry-plain before after (valid p) = refl
 entry-plain before after missing = refl
 entry-plain before after stopped = refl
 
-module _ (x : Line) (few : length (x .days) ≤ 92) where
+module _ (x : Line) (few : length (x .days) ≤ mostDays) where
   unfilled-at : (h : ℕ) → h < N x → getD (hourly unfilled x) h zeroes ≡ valuesAt x h
   unfolding hourly valuesAt
   unfilled-at h l =
@@ -182,13 +183,13 @@ module _ (x : Line) (few : length (x .days) ≤ 92) where
   unfolding hourly
   unfilled-long f = length-map (hourly unfilled x) f ∙ entries-length (λ v. v) unfilled zeroes [] (slots x) ∙ slots-long x
 
-  pub unfilled-concentrations : table (λ h. valuesAt x h .c) 2_208 ≡ cells (cs (hourly unfilled x))
+  pub unfilled-concentrations : table (λ h. valuesAt x h .c) mostHours ≡ cells (cs (hourly unfilled x))
   unfolding cs zeroes
   unfilled-concentrations =
       plain-cells x few (λ v. v .c) refl (cs (hourly unfilled x)) (unfilled-long (λ v. v .c))
       (λ h l. List·getD-map (λ (v : Values). v .c) (hourly unfilled x) h zeroes ∙ ap (λ (v : Values). v .c) (unfilled-at h l))
 
-  pub unfilled-flows : table (λ h. valuesAt x h .l) 2_208 ≡ cells (ls (hourly unfilled x))
+  pub unfilled-flows : table (λ h. valuesAt x h .l) mostHours ≡ cells (ls (hourly unfilled x))
   unfolding ls zeroes
   unfilled-flows =
       plain-cells x few (λ v. v .l) refl (ls (hourly unfilled x)) (unfilled-long (λ v. v .l))
@@ -203,15 +204,15 @@ module _ (x : Line) (few : length (x .days) ≤ 92) where
   filled-flows = filled-cells x few (λ v. v .l) refl (ls (hourly filled x)) (ls-alone (slots x))
 
 -- ---- a line's cells are 2,208, whatever they hold
-pub hourly-length : (x : Line) (rule : ℕ → List Values → List Values → Values) → length (hourly rule x) ≡ 24 * length (x .days)
+pub hourly-length : (x : Line) (rule : ℕ → List Values → List Values → Values) → length (hourly rule x) ≡ hoursOfDay * length (x .days)
 unfolding hourly
 hourly-length x rule = entries-length (λ v. v) rule zeroes [] (slots x) ∙ slots-long x
 
-pub held-length : (x : Line) → length (held x) ≡ 24 * length (x .days)
+pub held-length : (x : Line) → length (held x) ≡ hoursOfDay * length (x .days)
 unfolding held
 held-length x =
-    pick-case (λ (t : List Values). length t ≡ 24 * length (x .days)) (eqb (method x) 1) (hourly filled x) (hourly unfilled x) (λ _. hourly-length x filled) (λ _. hourly-length x unfilled)
+    pick-case (λ (t : List Values). length t ≡ hoursOfDay * length (x .days)) (eqb (method x) 1) (hourly filled x) (hourly unfilled x) (λ _. hourly-length x filled) (λ _. hourly-length x unfilled)
 
-pub held-cells : (x : Line) (f : Values → ℕ) → length (x .days) ≤ 92 → length (cells (map f (held x))) ≡ 2_208
+pub held-cells : (x : Line) (f : Values → ℕ) → length (x .days) ≤ mostDays → length (cells (map f (held x))) ≡ mostHours
 unfolding cells
 held-cells x f l = simp (length-append, length-replicate) (omega (arith, length-map (held x) f, held-length x))

@@ -8,7 +8,7 @@ use lib.ListN.{length, take, drop, replicate, getD, length-drop, length-replicat
 use lib.Seq.{take-all}
 use lib.Dec.{eqb}
 use borrow.Author.Tests.{lt-ltb, le-ltb, eq-eqb, ne-eqb, eqb-true, eqb-false}
-use Rattle.law.specs.Numbers.{mostHours, mostDays, mostCells, totalCells, mostGrams}
+use Rattle.law.specs.Numbers.{mostDays, mostHours, mostCells, totalCells}
 use Rattle.law.specs.Words.{need, pick, sumOf, table}
 use Rattle.law.proofs.Tables.{table-is, table-length}
 use Rattle.rules.specs.declared.Fault.{Fault}

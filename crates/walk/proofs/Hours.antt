@@ -8,6 +8,7 @@ use lib.ListN.{length, getD, List·getD-append}
 use lib.Seq.{getD-append-add}
 use lib.Dec.{eqb}
 use borrow.Author.Tests.{eq-eqb, ne-eqb}
+use Rattle.law.specs.Numbers.{hoursOfDay}
 use Rattle.law.specs.Words.{pick, table}
 use Rattle.law.proofs.Tables.{table-at}
 use Rattle.rules.specs.declared.Head.{Head}
@@ -26,7 +27,7 @@ use Rattle.hours.proofs.Laws.{slotIn, pairIs, slot-state, slot-valid}
 use Rattle.walk.specs.Books.{inCell, valuesAt}
 
 -- ---- past the days of a line nothing stands
-pub past-zero : (x : Line) (h : ℕ) → 24 * length (x .days) ≤ h → valuesAt x h ≡ zeroes
+pub past-zero : (x : Line) (h : ℕ) → hoursOfDay * length (x .days) ≤ h → valuesAt x h ≡ zeroes
 unfolding valuesAt replaced inCell
 past-zero x h l = ap (λ (o : Slot Pair). inCell (replaced (x .enforcement) (x .plant) h o)) (slot-past (x .days) h l)
 
@@ -47,16 +48,16 @@ module _ (x : Line) (d : Day) (e : x .enforcement ≡ []) (q : x .plant ≡ []) 
   unfolding valuesAt withDay
   day-slot h o s = ap (λ (t : Slot Pair). inCell (replaced (x .enforcement) (x .plant) h t)) s ∙ ap inCell (unreplaced (x .enforcement) (x .plant) h o e q)
 
-  pub day-before : (h : ℕ) → h < 24 * length (x .days) → valuesAt (withDay x d) h ≡ valuesAt x h
+  pub day-before : (h : ℕ) → h < hoursOfDay * length (x .days) → valuesAt (withDay x d) h ≡ valuesAt x h
   unfolding slotsOf valuesAt
   day-before h l =
       day-slot h (getD (slotsOf (x .days)) h stopped) (List·getD-append (slotsOf (x .days)) (table (slotOf d) 24) stopped h (omega (arith, length-slots (x .days))))
       ∙ ap inCell (sym (unreplaced (x .enforcement) (x .plant) h (getD (slotsOf (x .days)) h stopped) e q))
 
-  pub day-own : (k : ℕ) → k < 24 → valuesAt (withDay x d) (24 * length (x .days) + k) ≡ inCell (slotOf d k)
+  pub day-own : (k : ℕ) → k < 24 → valuesAt (withDay x d) (hoursOfDay * length (x .days) + k) ≡ inCell (slotOf d k)
   unfolding slotsOf
   day-own k l =
-      day-slot (24 * length (x .days) + k) (slotOf d k)
+      day-slot (hoursOfDay * length (x .days) + k) (slotOf d k)
       (ap (λ (n : ℕ). getD (slotsOf (x .days) ++ table (slotOf d) 24) (n + k) stopped) (sym (length-slots (x .days)))
       ∙ getD-append-add (slotsOf (x .days)) (table (slotOf d) 24) k stopped
       ∙ table-at (slotOf d) 24 k stopped l)

@@ -11,7 +11,7 @@ use lib.ListN.{length, set, length-append}
 use lib.Seq.{take-suc-set, getD-set-other}
 use lib.Dec.{eqb}
 use borrow.Author.Tests.{eq-eqb, ne-eqb, eqb-true, eqb-false}
-use Rattle.law.specs.Numbers.{mostDays, mostHours, totalCells, mostSurveys, mostSulphur, mostAsh, mostFuel, mostConcentration, mostFlow, mostAmount}
+use Rattle.law.specs.Numbers.{hoursOfDay, mostDays, mostHours, totalCells, mostSurveys, mostSulphur, mostAsh, mostFuel, mostConcentration, mostFlow, mostAmount}
 use Rattle.law.specs.Words.{pick, sumOf, table, largest}
 use Rattle.law.proofs.Tables.{table-same, table-set, table-patch}
 use Rattle.rules.specs.declared.Head.{Head}
@@ -58,7 +58,7 @@ begun-books h runs measured l p =
     }
 
 -- ---- a day
-day-past : (x : Line) (d : Day) (h : ℕ) → 24 * length (x .days) + 24 ≤ h → valuesAt (withDay x d) h ≡ zeroes
+day-past : (x : Line) (d : Day) (h : ℕ) → hoursOfDay * length (x .days) + 24 ≤ h → valuesAt (withDay x d) h ≡ zeroes
 unfolding withDay
 day-past x d h l = past-zero (withDay x d) h (omega arith)
 
@@ -66,30 +66,30 @@ module _ (x : Line) (d : Day) {s : Sums} {o : Open} (k : LineBooks x s o) (more 
   abbrev n : ℕ
   n = length (x .days)
 
-  old-hours : (h : ℕ) → h < 24 * n → valuesAt (withDay x d) h ≡ valuesAt x h
+  old-hours : (h : ℕ) → h < hoursOfDay * n → valuesAt (withDay x d) h ≡ valuesAt x h
   old-hours h l = day-before x d (k .early more .0) (k .early more .1) h l
 
-  own-hours : (i : ℕ) → i < 24 → valuesAt (withDay x d) (24 * n + i) ≡ inCell (slotOf d i)
+  own-hours : (i : ℕ) → i < 24 → valuesAt (withDay x d) (hoursOfDay * n + i) ≡ inCell (slotOf d i)
   own-hours i l = day-own x d (k .early more .0) (k .early more .1) i l
 
   -- what holds of every hour before, of the day's own and of nothing holds of every hour after
   day-all : (Q : Values → Type 0) → ((h : ℕ) → Q (valuesAt x h)) → ((i : ℕ) → i < 24 → Q (inCell (slotOf d i))) → Q zeroes → (h : ℕ) → Q (valuesAt (withDay x d) h)
-  day-all Q old own none h = go (decLt h (24 * n)) (decLt h (24 * n + 24))
+  day-all Q old own none h = go (decLt h (hoursOfDay * n)) (decLt h (hoursOfDay * n + 24))
     where
-      go : Dec (h < 24 * n) → Dec (h < 24 * n + 24) → Q (valuesAt (withDay x d) h)
+      go : Dec (h < hoursOfDay * n) → Dec (h < hoursOfDay * n + 24) → Q (valuesAt (withDay x d) h)
       go (yes l) t = subst Q (sym (old-hours h l)) (old h)
       go (no l) (yes t) =
-          let e : 24 * n + (h - 24 * n) ≡ h = omega arith in
-          subst (λ (i : ℕ). Q (valuesAt (withDay x d) i)) e (subst Q (sym (own-hours (h - 24 * n) (omega arith))) (own (h - 24 * n) (omega arith)))
+          let e : hoursOfDay * n + (h - hoursOfDay * n) ≡ h = omega arith in
+          subst (λ (i : ℕ). Q (valuesAt (withDay x d) i)) e (subst Q (sym (own-hours (h - hoursOfDay * n) (omega arith))) (own (h - hoursOfDay * n) (omega arith)))
       go (no l) (no t) = subst Q (sym (day-past x d h (omega arith))) none
 
   day-cells : (f : Values → ℕ) (most : ℕ) (v : ℕ → ℕ) (cells : List ℕ) → f zeroes ≡ 0 → ((i : ℕ) → i < 24 → f (inCell (slotOf d i)) ≡ v i) → ((i : ℕ) → i < 24 → v i ≤ most)
-      → CellsKept (λ h. f (valuesAt x h)) most cells → CellsKept (λ h. f (valuesAt (withDay x d) h)) most (putFrom v 24 (24 * n) cells)
+      → CellsKept (λ h. f (valuesAt x h)) most cells → CellsKept (λ h. f (valuesAt (withDay x d) h)) most (putFrom v 24 (hoursOfDay * n) cells)
   day-cells f most v cells z own limit c =
       record {
         hold =
-            ap (putFrom v 24 (24 * n)) (c .hold)
-            ∙ table-patch (λ h. f (valuesAt x h)) (λ h. f (valuesAt (withDay x d) h)) v (24 * n) 24 mostHours (omega (arith, k .period))
+            ap (putFrom v 24 (hoursOfDay * n)) (c .hold)
+            ∙ table-patch (λ h. f (valuesAt x h)) (λ h. f (valuesAt (withDay x d) h)) v (hoursOfDay * n) 24 mostHours (omega (arith, k .period))
             (λ h l. ap f (old-hours h l))
             (λ i l. ap f (own-hours i l) ∙ own i l)
             (λ h l. ap f (day-past x d h l) ∙ sym (ap f (past-zero x h (omega arith))));
@@ -99,7 +99,7 @@ module _ (x : Line) (d : Day) {s : Sums} {o : Open} (k : LineBooks x s o) (more 
   pub day-books : (cv lv : ℕ → ℕ)
       → ((i : ℕ) → i < 24 → inCell (slotOf d i) .c ≡ cv i) → ((i : ℕ) → i < 24 → inCell (slotOf d i) .l ≡ lv i)
       → ((i : ℕ) → i < 24 → cv i ≤ mostConcentration) → ((i : ℕ) → i < 24 → lv i ≤ mostFlow) → Long o
-      → LineBooks (withDay x d) s (inOpen (set (o .runs) n (d .masks .run)) (set (o .measured) n (d .masks .measured)) (o .flags) (putFrom cv 24 (24 * n) (o .concentrations)) (putFrom lv 24 (24 * n) (o .flows)))
+      → LineBooks (withDay x d) s (inOpen (set (o .runs) n (d .masks .run)) (set (o .measured) n (d .masks .measured)) (o .flags) (putFrom cv 24 (hoursOfDay * n) (o .concentrations)) (putFrom lv 24 (hoursOfDay * n) (o .flows)))
   unfolding runMasks measuredMasks withDay surveys surveyed zeroes
   day-books cv lv cs ls cm lm long =
       record {
@@ -239,7 +239,7 @@ module _ (x : Line) (s : Survey) (within : s .hour < mostHours) where
       (all-days : length (x .days) ≡ x .head .days) (no-plant : x .plant ≡ []) (room : surveys x < mostSurveys)
       (cm : valuesOf (s .pair) .c ≤ mostConcentration) (lm : valuesOf (s .pair) .l ≤ mostFlow)
     where
-      e-surveys : s .hour < 24 * x .head .days
+      e-surveys : s .hour < hoursOfDay * x .head .days
           → SurveysKept (x .head .days) (s ∷ x .enforcement) (surveyed (withEnforcement x s)) (t .surveyed + 1) (valuesOf (s .pair) .c * valuesOf (s .pair) .l + t .weight) (set (o .flags) (s .hour) 1)
       unfolding sumOf amount surveyValues
       e-surveys early =
@@ -253,7 +253,7 @@ module _ (x : Line) (s : Survey) (within : s .hour < mostHours) where
             most = subst (λ (l : List Survey). sumOf (λ u. amount (surveyValues u)) l ≤ length l * mostAmount) (sym e) (omega (arith, y .most, mul-le-mul cm lm));
           }
 
-      pub enforcement-books : s .hour < 24 * x .head .days
+      pub enforcement-books : s .hour < hoursOfDay * x .head .days
           → LineBooks (withEnforcement x s) (withSurvey t (standing (valuesOf (s .pair) .c) (valuesOf (s .pair) .l)))
           (inOpen (o .runs) (o .measured) (set (o .flags) (s .hour) 1)
           (pick (runsAt (measuredMasks (x .days)) (s .hour)) (set (o .concentrations) (s .hour) (valuesOf (s .pair) .c)) (o .concentrations))

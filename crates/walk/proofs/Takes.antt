@@ -5,6 +5,7 @@ use mathlib.Core.List.{List, [], _∷_}
 use Prim.Native.Nat.{ℕ, zero, suc, _+_, _*_, _<_, _≤_}
 use native.Mathlib.Omega.{arith}
 use lib.ListN.{length, take}
+use Rattle.law.specs.Numbers.{hoursOfDay, mostDays, mostHours, mostLines, mostSurveys, mostBatches, mostAsh, mostFuel, mostAmount, mostGrams}
 use Rattle.rules.specs.declared.Head.{Head}
 use Rattle.rules.specs.declared.Masks.{Masks}
 use Rattle.rules.specs.declared.Record.{Record}
@@ -14,7 +15,6 @@ use Rattle.rules.specs.declared.Batch.{Batch}
 use Rattle.rules.specs.declared.View.{View}
 use Rattle.rules.specs.declared.Coefficients.{Coefficients}
 use Rattle.rules.specs.declared.Coefficients.the-variants.{Balance, Oxides, Dust, NoEntry}
-use Rattle.law.specs.Numbers.{hoursOfDay, mostDays, mostHours, mostLines, totalCells, mostSurveys, mostBatches, mostAsh, mostFuel, mostAmount, mostGrams}
 use Rattle.rules.specs.Grams.{sulphurOf}
 use Rattle.rules.specs.Records.{masksOf, dayOf, recordIn}
 use Rattle.rules.specs.Hours.{runMasks, measuredMasks, runsAt, firstMissing, running, lacking}

@@ -20,7 +20,7 @@ fn put_day(part: &mut [u32], values: [u32; 24])
 
 pub fn put_hours(cells: &mut [u32], day: usize, values: [u32; 24])
     requires { ⌜ hoursOfDay * day + hoursOfDay ≤ length (now cells) ⌝ }
-    ensures { λ _. ⌜ now (cells .exit) ≡ putFrom (λ k. getD values k 0) 24 (24 * day) (now (cells .entry)) ⌝ }
+    ensures { λ _. ⌜ now (cells .exit) ≡ putFrom (λ k. getD values k 0) 24 (hoursOfDay * day) (now (cells .entry)) ⌝ }
 {
     let from = 24 * day;
     put_day(&mut cells[from..], values);

@@ -4,8 +4,8 @@ use mathlib.Core.Path.{_∙_, ap}
 use Prim.Native.Nat.{ℕ, _*_}
 use native.Mathlib.Nat.{mul-le-mul}
 use native.Mathlib.Omega.{arith}
-use Rattle.law.proofs.Tests.{pick-eq, pick-not-eq}
 use Rattle.law.specs.Numbers.{perGram}
+use Rattle.law.proofs.Tests.{pick-eq, pick-not-eq}
 use Rattle.law.specs.Words.{halvesUp}
 use Rattle.walk.specs.Closing.{gramsIn}
 use Rattle.walk.proofs.close.line_grams.Statement.{statement}
