@@ -12,7 +12,7 @@ use Rattle.rules.specs.Fill.{Values, zeroes}
 use Rattle.rules.specs.Grams.{amount}
 use Rattle.allowance.specs.Exact.{twice, twiceBoth}
 use Rattle.allowance.specs.Allowance.{ofMeasured}
-use Rattle.allowance.proofs.Alike.{Alike, list-self}
+use Rattle.rules.proofs.Alike.{Alike, list-self}
 use Rattle.allowance.proofs.Sums.{sum-times, list-off, line-off}
 
 -- what a fill rule gives for a gap and the valid hours before and after it

@@ -13,7 +13,7 @@ use Rattle.rules.specs.Fill.{Values, cs, ls, window, short, long, fill, fillBot
 use Rattle.rules.specs.Grams.{amount}
 use Rattle.allowance.specs.Exact.{twice, twiceMean, exactFill}
 use Rattle.allowance.specs.Allowance.{ofFilled, ofFill}
-use Rattle.allowance.proofs.Alike.{take-alike, map-alike}
+use Rattle.rules.proofs.Alike.{take-alike, map-alike}
 use Rattle.allowance.proofs.Account.{Half, Off, FillsOff}
 
 -- ---- once for every relation R of valid values and Q of fills

@@ -1,5 +1,4 @@
 -- The allowance of every line, proved once over the units, the divisor of a gram and the fill rule.
-pub mod Alike
 pub mod Sums
 pub mod Account
 pub mod Fills

@@ -22,7 +22,7 @@ use Rattle.rules.specs.Tables.{coefficientsOf}
 use Rattle.rules.specs.Grams.{valuesOf, slots, hourly, automatic, surveyValues, manual, fuelTop, fuelBottom, fuelGrams, grams}
 use Rattle.allowance.specs.Exact.{exactOf, exactFill, exactHourly, exactAutomatic, exactSurvey, exactManual}
 use Rattle.allowance.specs.Allowance.{ofFill, automaticAllowance, manualAllowance, AutomaticNear, ManualNear, FuelNear, Near, EveryLineNear}
-use Rattle.allowance.proofs.Alike.{slots-alike, slots-self}
+use Rattle.rules.proofs.Alike.{slots-alike, slots-self}
 use Rattle.allowance.proofs.Account.{Halves, automatic-off, manual-off}
 use Rattle.allowance.proofs.Fills.{fills-off}
 use Rattle.rules.proofs.Grams.{bottom-some}

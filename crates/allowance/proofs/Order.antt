@@ -16,7 +16,7 @@ use Rattle.rules.specs.Hours.{running}
 use Rattle.rules.specs.Lines.{Line, hours, surveyed}
 use Rattle.rules.specs.Fill.{Values, zeroes, meanUp, same, filled}
 use Rattle.rules.specs.Grams.{valuesOf, slots, hourly, amount, automatic, surveyValues, manual}
-use Rattle.allowance.proofs.Alike.{Alike, entries-alike, slots-alike, length-alike}
+use Rattle.rules.proofs.Alike.{Alike, entries-alike, slots-alike, length-alike}
 use Rattle.allowance.proofs.Sums.{sum-mono}
 use Rattle.allowance.proofs.Account.{Rule}
 use Rattle.allowance.proofs.Fills.{both-alike}

@@ -1,13 +1,14 @@
 -- Sums over a line: where each hour is within its allowance, the sum is within the sum of the allowances; and sums rise with what is added. Assumes nothing.
-use mathlib.Core.Path.{_≡_, refl, sym, _∙_, ap₂, subst₂}
+use mathlib.Core.Path.{_≡_, refl, sym, ap, _∙_, subst₂}
 use Prim.Native.Nat.{ℕ, _+_, _*_, _≤_}
 use native.Mathlib.Nat.{le-refl, add-le-add, mul-zero, mul-add}
 use native.Mathlib.Omega.{arith}
-use mathlib.Core.List.{List, [], _∷_, Forall₂, Forall₂·nil, Forall₂·cons}
+use mathlib.Core.List.{List, [], _∷_, map, Forall₂, Forall₂·nil, Forall₂·cons}
 use Rattle.law.specs.Words.{sumOf}
 use Rattle.law.proofs.Halves.{Within}
-use Rattle.rules.specs.Slots.{Slot, valid, missing, stopped, entry, entries}
-use Rattle.allowance.proofs.Alike.{Alike, entries-alike}
+use Rattle.rules.specs.Slots.{Slot, entries}
+use Rattle.rules.proofs.Slots.{entries-map}
+use Rattle.rules.proofs.Alike.{Alike, entries-alike}
 
 -- a multiple of each, added up
 pub sum-times : {A : Type 0} (m : ℕ) (f : A → ℕ) (s : List A) → sumOf (λ (a : A). m * f a) s ≡ m * sumOf f s
@@ -15,20 +16,15 @@ unfolding sumOf
 sum-times m f [] = sym (mul-zero m)
 sum-times m f (a ∷ s) = rw (sum-times m f s, mul-add)
 
--- a number of each entry, added up along the walk
-module _ {A B : Type 0} (f : B → ℕ) (own : A → B) (rule : ℕ → List A → List A → B) (nothing : B) where
-  entry-of : (b : List (Slot A)) (s : Slot A) (a : List (Slot A))
-      → f (entry own rule nothing b s a) ≡ entry (λ (v : A). f (own v)) (λ (g : ℕ) (b a : List A). f (rule g b a)) (f nothing) b s a
-  unfolding entry
-  entry-of b (valid v) a = refl
-  entry-of b missing a = refl
-  entry-of b stopped a = refl
+sum-map : {B : Type 0} (f : B → ℕ) (s : List B) → sumOf f s ≡ sumOf (λ (n : ℕ). n) (map f s)
+unfolding sumOf
+sum-map f [] = refl
+sum-map f (b ∷ s) = ap (λ (n : ℕ). f b + n) (sum-map f s)
 
-  sum-of : (b a : List (Slot A))
-      → sumOf f (entries own rule nothing b a) ≡ sumOf (λ (n : ℕ). n) (entries (λ (v : A). f (own v)) (λ (g : ℕ) (b a : List A). f (rule g b a)) (f nothing) b a)
-  unfolding entries sumOf
-  sum-of b [] = refl
-  sum-of b (s ∷ a) = ap₂ _+_ (entry-of b s a) (sum-of (s ∷ b) a)
+-- a number of each entry, added up along the walk
+sum-of : {A B : Type 0} (f : B → ℕ) (own : A → B) (rule : ℕ → List A → List A → B) (nothing : B) (b a : List (Slot A))
+    → sumOf f (entries own rule nothing b a) ≡ sumOf (λ (n : ℕ). n) (entries (λ (v : A). f (own v)) (λ (g : ℕ) (b a : List A). f (rule g b a)) (f nothing) b a)
+sum-of f own rule nothing b a = sum-map f (entries own rule nothing b a) ∙ ap (sumOf (λ (n : ℕ). n)) (entries-map own rule nothing f b a)
 
 -- an hour's amount and its allowance
 record Hour : Type 0 where

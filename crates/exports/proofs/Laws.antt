@@ -9,7 +9,7 @@ use lib.Ieee.{Float}
 use denote.Ref.{RefT, now}
 use Rattle.law.proofs.Tests.{need-le, need-not-le, pick-eq, pick-not-eq}
 use Rattle.law.proofs.Over.{Writing, writing-done, over-all}
-use Rattle.law.proofs.Tables.{table-is}
+use Rattle.law.proofs.Tabled.{table-is}
 use Rattle.reading.specs.declared.Hour.{Hour}
 use Rattle.rules.specs.declared.Answer.{Answer}
 use Rattle.rules.specs.Account.{Promise}

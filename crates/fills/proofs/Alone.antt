@@ -4,7 +4,7 @@ use mathlib.Core.Path.{_≡_, _∙_, sym}
 use mathlib.Core.List.{List, [], map}
 use Rattle.rules.specs.Slots.{Slot, mapSlot, entries}
 use Rattle.rules.specs.Fill.{Values, zeroes, cs, ls, fill, fillBoth, meanUp, same, filled}
-use Rattle.fills.proofs.Entries.{entries-map, entries-of-map}
+use Rattle.rules.proofs.Slots.{entries-map, entries-of-map}
 
 module _ (slots : List (Slot Values)) where
   pub cs-alone : cs (entries (λ v. v) filled zeroes [] slots) ≡ entries (λ v. v) (fill meanUp same) 0 [] (map (mapSlot (λ (v : Values). v .c)) slots)

@@ -9,7 +9,7 @@ use lib.ListN.{length, getD, take, drop, take-append-drop}
 use lib.Dec.{eqb}
 use Rattle.law.specs.Words.{largest}
 use Rattle.law.proofs.Tests.{pick-case}
-use Rattle.law.proofs.Tables.{table-at}
+use Rattle.law.proofs.Tabled.{table-at}
 use Rattle.rules.specs.Slots.{Slot, valid, missing, stopped, valids, entry}
 use Rattle.gap.proofs.Largest.{largest-append}
 use Rattle.gap.proofs.Bounds.{fill-most}

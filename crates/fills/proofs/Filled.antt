@@ -11,11 +11,11 @@ use borrow.Author.Tests.{eqb-true, eqb-false}
 use Rattle.law.specs.Words.{table}
 use Rattle.law.proofs.Tests.{pick-eq, pick-not-eq}
 use Rattle.law.proofs.Over.{over-back}
-use Rattle.law.proofs.Tables.{table-length, table-at, table-is}
+use Rattle.law.proofs.Tabled.{table-length, table-at, table-is}
 use Rattle.rules.specs.Slots.{Slot, missing, stopped, entry, entries}
 use Rattle.rules.specs.Fill.{fill, meanUp, same}
 use Rattle.fills.specs.Gaps.{slotAt, row, fillAt, cellAt, filledCells}
-use Rattle.fills.proofs.Entries.{entries-length, line-at}
+use Rattle.rules.proofs.Slots.{entries-length, line-at}
 use Rattle.fills.proofs.States.{row-length, slot-valid, slot-missing, slot-stopped}
 
 module _ (states values : List ℕ) where

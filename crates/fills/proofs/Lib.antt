@@ -2,7 +2,6 @@
 pub mod Neighbours
 pub mod States
 pub mod Products
-pub mod Entries
 pub mod Alone
 pub mod Filled
 pub mod Bounds

@@ -8,7 +8,7 @@ use lib.Seq.{take-at}
 use lib.Dec.{eqb, leb}
 use Rattle.law.specs.Numbers.{hoursOfDay, mostHours}
 use Rattle.law.specs.Words.{table, over}
-use Rattle.law.proofs.Tables.{table-length}
+use Rattle.law.proofs.Tabled.{table-length}
 use Rattle.law.proofs.Tests.{both-true}
 use borrow.Author.Tests.{leb-true, eq-eqb, le-leb, ne-eqb}
 use mathlib.Core.Bool.{true, false, _&&_}

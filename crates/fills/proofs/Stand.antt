@@ -7,12 +7,12 @@ use native.Mathlib.Nat.{eq-or-lt-of-le}
 use native.Mathlib.Numerals.{add-one}
 use native.Mathlib.Omega.{arith}
 use lib.ListN.{length, getD, take, drop, length-drop}
-use lib.Seq.{take-all, take-suc, drop-drop, getD-drop}
+use lib.Seq.{take-suc, drop-drop, getD-drop}
 use lib.Dec.{eqb}
 use borrow.Author.Tests.{eqb-true}
 use Rattle.law.specs.Words.{pick, over}
 use Rattle.law.proofs.Tests.{pick-not-eq, pick-same}
-use Rattle.law.proofs.Over.{over-none, over-skip, over-back, over-part, part-back, length-over}
+use Rattle.law.proofs.Over.{part-whole, over-none, over-skip, over-back, over-part, part-back, length-over}
 use Rattle.rules.specs.Slots.{Slot, valid, stopped, run, valids}
 use Rattle.rules.specs.Fill.{fill, meanUp, same}
 use Rattle.fills.specs.Gaps.{row, fillAt, cellAt, filledCells}
@@ -21,9 +21,6 @@ use Rattle.fills.proofs.Neighbours.{before, from, Empty, run-before, va
 use Rattle.fills.proofs.States.{row-length, in-row, at-valid, at-missing, at-stopped, at-empty}
 
 -- a part lent from hour i to the end
-part-whole : (i : ℕ) (xs : List ℕ) → take (length xs - i) (drop i xs) ≡ drop i xs
-part-whole i xs = take-all (length xs - i) (drop i xs) (let h : length (drop i xs) ≤ length xs - i = omega (arith, length-drop i xs) in h)
-
 -- what comes back of it from the filler
 pub part-filled : (states values ys : List ℕ) (v i next : ℕ)
     → ys ≡ over (spot (take (length states - i) (drop i states)) v (take (length values - i) (drop i values))) (next - i) (take (length values - i) (drop i values))

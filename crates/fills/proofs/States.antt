@@ -10,7 +10,7 @@ use lib.Dec.{eqb}
 use borrow.Author.Tests.{eqb-true, eqb-false}
 use Rattle.law.specs.Words.{pick}
 use Rattle.law.proofs.Tests.{pick-eq, pick-not-eq}
-use Rattle.law.proofs.Tables.{table-length, table-at}
+use Rattle.law.proofs.Tabled.{table-length, table-at}
 use Rattle.rules.specs.Slots.{valid, missing, stopped, run, valids}
 use Rattle.fills.specs.Gaps.{slotAt, row}
 use Rattle.fills.proofs.Neighbours.{At, Empty, from, run-from, run-end, valids-from, valids-end, alike-step}

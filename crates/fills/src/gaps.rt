@@ -1,13 +1,9 @@
 // The gaps of a line's two quantities. A state is 2 for a measured hour and 1 for a missing one; with any other the hour is stopped.
 ghost use mathlib.Core.Path.{_≡_};
-ghost use mathlib.Core.List.{reverse};
 ghost use Prim.Native.Nat.{_≤_};
-ghost use lib.ListN.{length, take, drop};
+ghost use lib.ListN.{length};
 ghost use Rattle.law.specs.Numbers.{mostHours};
-ghost use Rattle.rules.specs.Slots.{valids};
-ghost use Rattle.rules.specs.Fill.{fill, meanUp, same};
-ghost use Rattle.fills.specs.Gaps.{row, filledCells};
-ghost use Rattle.fills.specs.Parts.{patched};
+ghost use Rattle.fills.specs.Parts.{patched, Roomy, Gathered, Kept, FilledBoth, gapFill};
 use crate::stretch::Gap;
 use crate::stretch::filler;
 use crate::stretch::run_end;
@@ -21,8 +17,8 @@ fn gather(
     cs: &mut [u32],
     ls: &mut [u32],
 ) -> usize
-    requires { ⌜ (length (now states) ≤ length (now concentrations)) × (length (now states) ≤ length (now flows)) × (length (now states) ≤ length (now cs)) × (length (now states) ≤ length (now ls)) ⌝ }
-    ensures { λ r. ⌜ (r ≤ length (now (states .entry))) × (take r (now (cs .exit)) ≡ valids (row (now (states .entry)) (now (concentrations .entry)))) × (take r (now (ls .exit)) ≡ valids (row (now (states .entry)) (now (flows .entry)))) ⌝ }
+    requires { ⌜ Roomy (now states) (now concentrations) (now flows) (now cs) (now ls) ⌝ }
+    ensures { λ r. ⌜ Gathered (now (states .entry)) (now (concentrations .entry)) (now (flows .entry)) (now (cs .exit)) (now (ls .exit)) r ⌝ }
 {
     let mut b: usize = 0;
     let mut i: usize = 0;
@@ -42,16 +38,16 @@ fn gather(
 // One quantity of the gap at hour `first`: `kept` has its valid values, of which `b` stand before the gap.
 fn fill_one(states: &[u8], values: &mut [u32], kept: &[u32], first: usize, b: usize, gap: Gap)
     requires { ⌜ (first ≤ gap .next) × (gap .next ≤ length (now states)) × (gap .next ≤ length (now values)) ⌝ }
-    ensures { λ _. ⌜ now (values .exit) ≡ patched (now (states .entry)) (fill meanUp same (gap .missing) (reverse (take b (now (kept .entry)))) (drop b (now (kept .entry)))) first (gap .next) (now (values .entry)) ⌝ }
+    ensures { λ _. ⌜ now (values .exit) ≡ patched (now (states .entry)) (gapFill (gap .missing) (now (kept .entry)) b) first (gap .next) (now (values .entry)) ⌝ }
 {
     let v = gap::fill_of(gap.missing, kept, b);
     filler(&mut values[first..], &states[first..], gap.next - first, v);
 }
 
 // Every gap, from the first hour on: of the hours before `i`, `empty` are not measured.
-fn walk(states: &[u8], concentrations: &mut [u32], flows: &mut [u32], cs: &[u32], ls: &[u32])
-    requires { ⌜ (length (now states) ≤ length (now concentrations)) × (length (now states) ≤ length (now flows)) × (now cs ≡ valids (row (now states) (now concentrations))) × (now ls ≡ valids (row (now states) (now flows))) ⌝ }
-    ensures { λ _. ⌜ (now (concentrations .exit) ≡ filledCells (now (states .entry)) (now (concentrations .entry))) × (now (flows .exit) ≡ filledCells (now (states .entry)) (now (flows .entry))) ⌝ }
+fn fill_along(states: &[u8], concentrations: &mut [u32], flows: &mut [u32], cs: &[u32], ls: &[u32])
+    requires { ⌜ Kept (now states) (now concentrations) (now flows) (now cs) (now ls) ⌝ }
+    ensures { λ _. ⌜ FilledBoth (now (states .entry)) (now (concentrations .entry)) (now (flows .entry)) (now (concentrations .exit)) (now (flows .exit)) ⌝ }
 {
     let mut empty: usize = 0;
     let mut i: usize = 0;
@@ -78,11 +74,11 @@ fn walk(states: &[u8], concentrations: &mut [u32], flows: &mut [u32], cs: &[u32]
 // The missing hours of both quantities filled, of which each hour has its cells.
 pub fn fill_gaps(states: &[u8], concentrations: &mut [u32], flows: &mut [u32])
     requires { ⌜ (length (now states) ≤ mostHours) × (length (now states) ≤ length (now concentrations)) × (length (now states) ≤ length (now flows)) ⌝ }
-    ensures { λ _. ⌜ (now (concentrations .exit) ≡ filledCells (now (states .entry)) (now (concentrations .entry))) × (now (flows .exit) ≡ filledCells (now (states .entry)) (now (flows .entry))) ⌝ }
+    ensures { λ _. ⌜ FilledBoth (now (states .entry)) (now (concentrations .entry)) (now (flows .entry)) (now (concentrations .exit)) (now (flows .exit)) ⌝ }
 {
     // The valid values are kept aside before a cell is written, so that no fill feeds another.
     let mut cs = [0u32; 2208];
     let mut ls = [0u32; 2208];
     let count = gather(states, concentrations, flows, &mut cs, &mut ls);
-    walk(states, concentrations, flows, &cs[0..count], &ls[0..count]);
+    fill_along(states, concentrations, flows, &cs[0..count], &ls[0..count]);
 }

@@ -8,13 +8,13 @@ ghost use Prim.Native.Nat.{_*_, _≤_};
 ghost use lib.ListN.{length};
 ghost use Rattle.law.specs.Numbers.{hoursOfDay, mostHours};
 ghost use Rattle.rules.specs.Hours.{firstMissing};
-ghost use Rattle.fills.specs.Gaps.{filledCells};
+ghost use Rattle.fills.specs.Parts.{FilledBoth};
 ghost use Rattle.fills.specs.Period.{periodStates, isFilled, periodCells};
 
 // Both quantities of the line filled.
 fn fill_line(runs: &[u32; 92], measured: &[u32; 92], days: u8, conc: &mut [u32], flow: &mut [u32])
     requires { ⌜ (hoursOfDay * days ≤ mostHours) × (hoursOfDay * days ≤ length (now conc)) × (hoursOfDay * days ≤ length (now flow)) ⌝ }
-    ensures { λ _. ⌜ (now (conc .exit) ≡ filledCells (periodStates (now (runs .entry)) (now (measured .entry)) days) (now (conc .entry))) × (now (flow .exit) ≡ filledCells (periodStates (now (runs .entry)) (now (measured .entry)) days) (now (flow .entry))) ⌝ }
+    ensures { λ _. ⌜ FilledBoth (periodStates (now (runs .entry)) (now (measured .entry)) days) (now (conc .entry)) (now (flow .entry)) (now (conc .exit)) (now (flow .exit)) ⌝ }
 {
     let mut states = [0u8; 2208];
     hours::hour_states(runs, measured, days, &mut states);

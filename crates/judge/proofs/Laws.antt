@@ -6,7 +6,7 @@ use mathlib.Core.Path.{_≡_, refl, sym, ap, _∙_}
 use native.Mathlib.Omega.{arith}
 use lib.ListN.{getD}
 use lib.Dec.{ltb}
-use borrow.Author.Tests.{leb-true, ltb-true, eqb-true}
+use borrow.Author.Tests.{leb-true, ltb-true, eqb-true, not-true}
 use Rattle.law.specs.Numbers.{hoursOfDay, mostDays, mostLines, mostSurveys, mostBatches, mostSulphur, mostAsh, mostFuel}
 use Rattle.law.proofs.Tests.{pick-not-le}
 use Rattle.rules.specs.declared.Head.{Head}
@@ -134,10 +134,6 @@ pub record EndOk (v : View) : Type 0 where
   pub days-done : v .days ≡ v .head .days
   pub by-fuel : 2 < lineMethod v → (0 < v .batches) × (coefficientsOf (v .head) ≡ NoEntry → ⊥)
 
-turned-true : (t : Bool) → not t ≡ true → t ≡ false
-turned-true true e = cc
-turned-true false e = refl
-
 module _ (v : View) where
   pub head-ok : (runs : List ℕ) (h : Head) → judgeRecord v runs (OfHead h) ≡ fine → HeadOk v h
   unfolding judgeRecord placeHead rangeHead
@@ -145,7 +141,7 @@ module _ (v : View) where
       let both = both-passed (placeHead v h) (rangeHead h) (search stands) e in
       let p = each-passed 2 0 _ refl (both .0) in
       let r = each-passed 3 0 _ refl (both .1) in
-      record { outside = turned-true (v .inside) (p 0); room = ltb-true _ _ (p 2); pollutant-least = leb-true _ _ (r 0); pollutant-most = leb-true _ _ (r 1); days-most = leb-true _ _ (r 11) }
+      record { outside = not-true (v .inside) (p 0); room = ltb-true _ _ (p 2); pollutant-least = leb-true _ _ (r 0); pollutant-most = leb-true _ _ (r 1); days-most = leb-true _ _ (r 11) }
 
   pub day-ok : (runs : List ℕ) (m : Masks) → judgeRecord v runs (OfDay m) ≡ fine → DayOk v m
   unfolding judgeRecord placeDay

@@ -10,7 +10,7 @@ use lib.Dec.{leb}
 use borrow.Author.Tests.{le-leb, lt-leb, leb-true}
 use Rattle.law.specs.Numbers.{mostHours, mostCells}
 use Rattle.law.specs.Words.{need, over}
-use Rattle.law.proofs.Tables.{table-is}
+use Rattle.law.proofs.Tabled.{table-is}
 use Rattle.rules.specs.declared.Answer.{Answer}
 use Rattle.rules.specs.Lines.{Line}
 use Rattle.rules.specs.Judge.{refuse}

@@ -10,7 +10,7 @@ use lib.Dec.{ltb}
 use borrow.Author.Tests.{ltb-true, ltb-false}
 use Rattle.law.specs.Numbers.{mostHours}
 use Rattle.law.specs.Words.{table, over}
-use Rattle.law.proofs.Tables.{table-is, table-at, table-length}
+use Rattle.law.proofs.Tabled.{table-is, table-at, table-length}
 use Rattle.law.proofs.Over.{over-all}
 use Rattle.cells.proofs.Parts.{first-all}
 use Rattle.rules.specs.Row.{cells}

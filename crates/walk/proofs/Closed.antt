@@ -23,7 +23,7 @@ use Rattle.walk.specs.declared.take.Taken.{Taken}
 use Rattle.walk.specs.Books.{putFrom, Done}
 use Rattle.walk.specs.Views.{afterEnd}
 use Rattle.rules.specs.Judge.{fine, lineMethod}
-use Rattle.law.proofs.Tables.{table-length}
+use Rattle.law.proofs.Tabled.{table-length}
 use Rattle.hours.specs.States.{stateAt}
 use Rattle.fills.specs.Gaps.{filledCells}
 use Rattle.fills.specs.Weights.{products}

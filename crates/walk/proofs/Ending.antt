@@ -12,7 +12,7 @@ use lib.Dec.{eqb}
 use borrow.Author.Tests.{eqb-true, eqb-false, eq-eqb, ne-eqb}
 use Rattle.law.specs.Numbers.{hoursOfDay, mostDays, mostHours, rowCells, totalCells, perGram, mostGrams}
 use Rattle.law.specs.Words.{need, pick, sumOf, table, over, halvesUp}
-use Rattle.law.proofs.Tables.{table-length, table-at, table-set}
+use Rattle.law.proofs.Tabled.{table-length, table-at, table-set}
 use Rattle.rules.specs.declared.Head.{Head}
 use Rattle.rules.specs.declared.View.{View}
 use Rattle.rules.specs.declared.Coefficients.the-variants.{NoEntry}

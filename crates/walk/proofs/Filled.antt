@@ -9,7 +9,7 @@ use lib.Dec.{eqb}
 use Rattle.law.specs.Numbers.{hoursOfDay, mostDays, mostHours}
 use Rattle.law.specs.Words.{pick, table}
 use Rattle.law.proofs.Tests.{pick-case}
-use Rattle.law.proofs.Tables.{table-length, table-at, table-is}
+use Rattle.law.proofs.Tabled.{table-length, table-at, table-is}
 use Rattle.rules.specs.declared.Pair.{Pair}
 use Rattle.rules.specs.declared.Survey.{Survey}
 use Rattle.rules.specs.Slots.{Slot, valid, missing, stopped, mapSlot, entry, entries}
@@ -20,10 +20,10 @@ use Rattle.rules.specs.Grams.{valuesOf, slots, hourly}
 use Rattle.rules.specs.Method.{method}
 use Rattle.rules.specs.Row.{cells, held}
 use Rattle.hours.specs.States.{stateAt}
-use Rattle.hours.proofs.Days.{length-slots}
+use Rattle.rules.proofs.Days.{length-slots}
 use Rattle.hours.proofs.Laws.{stateIn, slotIn, state-slot}
 use Rattle.fills.specs.Gaps.{slotAt, row, filledCells}
-use Rattle.fills.proofs.Entries.{entries-length, line-at}
+use Rattle.rules.proofs.Slots.{entries-length, line-at}
 use Rattle.fills.proofs.Filled.{filled-line, filled-rest}
 use Rattle.fills.proofs.Alone.{cs-alone, ls-alone}
 use Rattle.walk.specs.Books.{inCell, valuesAt}

@@ -5,12 +5,12 @@ use mathlib.Core.List.{List, []}
 use Prim.Native.Nat.{ℕ, zero, suc, _+_, _-_, _*_, _<_, _≤_}
 use native.Mathlib.Omega.{arith}
 use lib.ListN.{length, take, drop, replicate, getD, length-drop, length-replicate, getD-replicate}
-use lib.Seq.{take-all}
 use lib.Dec.{eqb}
 use borrow.Author.Tests.{lt-ltb, le-ltb, eq-eqb, ne-eqb, eqb-true, eqb-false}
 use Rattle.law.specs.Numbers.{mostDays, mostHours, mostCells, totalCells}
 use Rattle.law.specs.Words.{need, pick, sumOf, table}
-use Rattle.law.proofs.Tables.{table-is, table-length}
+use Rattle.law.proofs.Over.{part-whole}
+use Rattle.law.proofs.Tabled.{table-is, table-length}
 use Rattle.rules.specs.declared.Fault.{Fault}
 use Rattle.rules.specs.declared.Record.{Record}
 use Rattle.rules.specs.declared.Record.the-variants.{Bad}
@@ -102,14 +102,11 @@ reached-start file runs measured flags conc flow rows totals p rl ml g ol tl c f
     })
 
 -- ---- a record is judged
--- the run masks that are lent to the judge, and the bytes of the record
+-- the run masks that are lent to the judge
 lent-stand : (stand : Stand) (v : View) (s : Sums) (o : Open) (d : Done) → Kept stand v s o d → take (v .days) (o .runs) ≡ runsOf stand
 unfolding viewOf runsOf
 lent-stand (Between done) v s o d k = ap (λ (w : View). take (w .days) (o .runs)) (k .view)
 lent-stand (Inside x done) v s o d k = ap (λ (w : View). take (w .days) (o .runs)) (k .view) ∙ k .books .masks .runsKept
-
-lent-bytes : (file : List ℕ) (at : ℕ) → take (length file - at) (drop at file) ≡ drop at file
-lent-bytes file at = take-all (length file - at) (drop at file) (let l : length (drop at file) ≤ length file - at = omega (arith, length-drop at file) in l)
 
 module _ (file : List ℕ) (v : View) (s : Sums) (at : ℕ) (o : Open) (d : Done) (g : Going file v s at o d) (more : at < length file) where
   abbrev bytes : List ℕ
@@ -117,7 +114,7 @@ module _ (file : List ℕ) (v : View) (s : Sums) (at : ℕ) (o : Open) (d : Done
 
   -- what refuses the record where the walk stands
   found-here : judge v (runsOf (g .stand)) bytes ≡ verdict file at (g .stand)
-  found-here = ap (λ (w : View). judge w (runsOf (g .stand)) bytes) (g .kept .view) ∙ ap (judge (viewOf (g .stand)) (runsOf (g .stand))) (lent-bytes file at)
+  found-here = ap (λ (w : View). judge w (runsOf (g .stand)) bytes) (g .kept .view) ∙ ap (judge (viewOf (g .stand)) (runsOf (g .stand))) (part-whole at file)
 
   -- a record that is refused: the walk stops there, with nothing more to read
   stops : (t : Taken) (o' : Open) (d' : Done) → t .fault ≡ judge v (runsOf (g .stand)) bytes → (t .fault .number ≡ 0 → ⊥)
@@ -135,7 +132,7 @@ module _ (file : List ℕ) (v : View) (s : Sums) (at : ℕ) (o : Open) (d : Done
 
   -- a fault within the record lies within the file
   in-file : (f : Fault) → Within (length bytes) f → at + f .place ≤ length file
-  in-file f w = omega (arith, w, ap length (lent-bytes file at), length-drop at file)
+  in-file f w = omega (arith, w, ap length (part-whole at file), length-drop at file)
 
   module _ (r : Record) (read : r ≡ recordIn bytes) (f : Fault) (judged : f ≡ judgeRecord v (take (v .days) (o .runs)) r) where
     judged-here : f ≡ judgeRecord v (runsOf (g .stand)) r
@@ -160,7 +157,7 @@ module _ (file : List ℕ) (v : View) (s : Sums) (at : ℕ) (o : Open) (d : Done
       not-bad q = bad-refused v (runsOf (g .stand)) (ap (judgeRecord v (runsOf (g .stand))) (sym q ∙ sym read) ∙ is-fine)
 
       pub fits : at + sizeIn bytes ≤ length file
-      fits = omega (arith, record-whole bytes not-bad, ap length (lent-bytes file at), length-drop at file)
+      fits = omega (arith, record-whole bytes not-bad, ap length (part-whole at file), length-drop at file)
 
       module _ (t : Taken) (o' : Open) (d' : Done) (takes : Takes bytes r v s o d o' d' t) where
         mine : Took (g .stand) bytes r t o' d'
@@ -177,7 +174,7 @@ module _ (file : List ℕ) (v : View) (s : Sums) (at : ℕ) (o : Open) (d : Done
         goes z =
             let here-fine = ap (λ (y : Fault). y .number) (sym (later ∙ found-here)) ∙ z in
             let on = walk-on file at (g .stand) (g .most) more (g .enough) here-fine in
-            let same = lent-bytes file at in
+            let same = part-whole at file in
             record {
               stand = taken (g .stand) (here file at (g .stand)) (recordIn (here file at (g .stand)));
               most = on .0;

@@ -10,7 +10,7 @@ use lib.Dec.{eqb}
 use borrow.Author.Tests.{eq-eqb, ne-eqb}
 use Rattle.law.specs.Numbers.{hoursOfDay}
 use Rattle.law.specs.Words.{pick, table}
-use Rattle.law.proofs.Tables.{table-at}
+use Rattle.law.proofs.Tabled.{table-at}
 use Rattle.rules.specs.declared.Head.{Head}
 use Rattle.rules.specs.declared.Pair.{Pair}
 use Rattle.rules.specs.declared.Survey.{Survey}
@@ -22,7 +22,7 @@ use Rattle.rules.specs.Walk.{begun, withDay, withEnforcement, withPlant}
 use Rattle.rules.specs.Fill.{zeroes}
 use Rattle.rules.specs.Grams.{valuesOf}
 use Rattle.hours.specs.States.{stateOf, stateAt}
-use Rattle.hours.proofs.Days.{length-slots, slot-past}
+use Rattle.rules.proofs.Days.{length-slots, slot-past}
 use Rattle.hours.proofs.Laws.{slotIn, pairIs, slot-state, slot-valid}
 use Rattle.walk.specs.Books.{inCell, valuesAt}
 

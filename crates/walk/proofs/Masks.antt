@@ -9,7 +9,7 @@ use lib.Seq.{getD-take}
 use lib.Dec.{eqb}
 use Rattle.law.specs.Numbers.{hoursOfDay}
 use Rattle.law.specs.Words.{pick, seek}
-use Rattle.law.proofs.Tables.{table-same}
+use Rattle.law.proofs.Tabled.{table-same}
 use Rattle.rules.specs.Hours.{bit, runsAt, lacksAt, firstMissing}
 use Rattle.hours.specs.States.{stateOf, stateAt}
 use Rattle.fills.specs.Period.{periodStates}

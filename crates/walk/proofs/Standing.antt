@@ -10,7 +10,7 @@ use borrow.Author.Tests.{eqb-true, eqb-false}
 use Rattle.law.specs.Numbers.{hoursOfDay, mostDays, mostHours, mostLines, totalCells, mostSurveys, mostSulphur, mostAsh, mostFuel, mostConcentration, mostFlow}
 use Rattle.law.specs.Words.{pick, table}
 use Rattle.law.proofs.Tests.{pick-true, pick-false}
-use Rattle.law.proofs.Tables.{table-length, table-at}
+use Rattle.law.proofs.Tabled.{table-length, table-at}
 use Rattle.reading.specs.declared.Rounded.{Rounded}
 use Rattle.reading.specs.Reading.{flow, stated, flaggedOf}
 use Rattle.rules.specs.declared.Head.{Head}

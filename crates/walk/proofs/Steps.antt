@@ -13,7 +13,7 @@ use lib.Dec.{eqb}
 use borrow.Author.Tests.{eq-eqb, ne-eqb, eqb-true, eqb-false}
 use Rattle.law.specs.Numbers.{hoursOfDay, mostDays, mostHours, totalCells, mostSurveys, mostSulphur, mostAsh, mostFuel, mostConcentration, mostFlow, mostAmount}
 use Rattle.law.specs.Words.{pick, sumOf, table, largest}
-use Rattle.law.proofs.Tables.{table-same, table-set, table-patch}
+use Rattle.law.proofs.Tabled.{table-same, table-set, table-patch}
 use Rattle.rules.specs.declared.Head.{Head}
 use Rattle.rules.specs.declared.Survey.{Survey}
 use Rattle.rules.specs.declared.Batch.{Batch}

@@ -33,7 +33,7 @@ use Rattle.hours.proofs.Laws.{running-period, missing-period}
 use Rattle.walk.specs.declared.books.Sums.{Sums}
 use Rattle.walk.specs.declared.take.Taken.{Taken}
 use Rattle.walk.specs.Books.{Open, inOpen, Done, Kept}
-use Rattle.walk.specs.Taking.{HeadTaken, DayTaken, EnforcementTaken, PlantTaken, BatchTaken, EndReady, EndTaken}
+use Rattle.walk.specs.Taking.{HeadTaken, DayReady, DayTaken, SurveyReady, EnforcementTaken, PlantTaken, BatchTaken, EndReady, EndTaken}
 use Rattle.walk.specs.Walking.{Ready, Took}
 use Rattle.walk.proofs.Standing.{kept-head, kept-day, kept-enforcement, kept-plant, kept-batch}
 use Rattle.walk.proofs.Ending.{method-is, cells-most, kept-end}
@@ -247,46 +247,50 @@ module _ (bytes : List ℕ) (v : View) (s : Sums) (o : Open) (d : Done) where
   days-lent (Inside x done) k = omega (arith, ap (λ (w : View). w .days) (k .view), k .books .days, k .books .period)
 
   pub ready-day : (stand : Stand) (r : Record) (m : Masks) → r ≡ OfDay m → Ready stand bytes r v s o d
-      → (m .day < mostDays) × (length (o .concentrations) ≡ mostHours) × (length (o .flows) ≡ mostHours) × (v .days < mostDays) × (v .running ≤ mostHours) × (v .missing ≤ mostHours) × (205 ≤ length bytes)
+      → DayReady bytes v m (o .concentrations) (o .flows)
   unfolding viewOf
   ready-day stand r m q k =
       let ok = day-ok v (runsOf stand) m (judged stand r (OfDay m) q k) in
       in-line stand v (k .kept .view) (ok .inside)
-      (λ a. Kept a v s o d → (m .day < mostDays) × (length (o .concentrations) ≡ mostHours) × (length (o .flows) ≡ mostHours) × (v .days < mostDays) × (v .running ≤ mostHours) × (v .missing ≤ mostHours) × (205 ≤ length bytes))
+      (λ a. Kept a v s o d → DayReady bytes v m (o .concentrations) (o .flows))
       (λ x done y.
       let e = y .view in
       let b = y .books in
-      let n : v .days < mostDays = omega (arith, ok .room, ap (λ (w : View). w .head .days) e, b .period) in (
-        omega (arith, ok .turn),
-        y .long .concentrations,
-        y .long .flows,
-        n,
-        omega (arith, ap (λ (w : View). w .running) e, running-period (x .days), b .days, b .period),
-        omega (arith, ap (λ (w : View). w .missing) e, missing-period (x .days), running-period (x .days), b .days, b .period),
-        day-in bytes m (sym (k .read) ∙ q) .0,
-      )) (k .kept)
+      let n : v .days < mostDays = omega (arith, ok .room, ap (λ (w : View). w .head .days) e, b .period) in
+      record {
+        day = omega (arith, ok .turn);
+        concLong = y .long .concentrations;
+        flowLong = y .long .flows;
+        days = n;
+        running = omega (arith, ap (λ (w : View). w .running) e, running-period (x .days), b .days, b .period);
+        missing = omega (arith, ap (λ (w : View). w .missing) e, missing-period (x .days), running-period (x .days), b .days, b .period);
+        whole = day-in bytes m (sym (k .read) ∙ q) .0;
+      }) (k .kept)
 
   weights-most : (x : Line) (done : List Line) → Kept (Inside x done) v s o d → (s .surveyed ≤ mostSurveys) × (s .weight ≤ mostSurveys * mostAmount)
   weights-most x done k =
       let y = k .books .surveys in
       (omega (arith, y .counted, surveyed-most x, k .books .few), omega (arith, y .weighed, y .most, surveyed-most x, k .books .few))
 
-  -- what a survey of either kind asks
-  abbrev SurveyReady : Survey → ℕ → Type 0
-  SurveyReady t count = (t .hour < mostHours) × (length (o .concentrations) ≡ mostHours) × (length (o .flows) ≡ mostHours) × (count < mostSurveys) × (s .surveyed < mostSurveys) × (s .weight ≤ mostSurveys * mostAmount)
-
-  ready-survey : (stand : Stand) (t : Survey) (count : ℕ) → count ≤ v .enforcement .count + v .plant .count → SurveyOk v t → Kept stand v s o d → SurveyReady t count
+  ready-survey : (stand : Stand) (t : Survey) (count : ℕ) → count ≤ v .enforcement .count + v .plant .count → SurveyOk v t → Kept stand v s o d → SurveyReady t count s (o .concentrations) (o .flows)
   ready-survey stand t count l ok k =
-      in-line stand v (k .view) (ok .inside) (λ a. Kept a v s o d → SurveyReady t count)
+      in-line stand v (k .view) (ok .inside) (λ a. Kept a v s o d → SurveyReady t count s (o .concentrations) (o .flows))
       (λ x done y.
       let f = survey-facts x done t (y .view) ok in
       let b = y .books in
-      (omega (arith, f .hour, b .period), y .long .concentrations, y .long .flows, omega (arith, ok .room, l), omega (arith, b .surveys .counted, surveyed-most x, f .room), weights-most x done y .1)) k
+      record {
+        hour = omega (arith, f .hour, b .period);
+        concLong = y .long .concentrations;
+        flowLong = y .long .flows;
+        room = omega (arith, ok .room, l);
+        surveyed = omega (arith, b .surveys .counted, surveyed-most x, f .room);
+        weight = weights-most x done y .1;
+      }) k
 
-  pub ready-enforcement : (stand : Stand) (r : Record) (t : Survey) → r ≡ OfEnforcement t → Ready stand bytes r v s o d → SurveyReady t (v .enforcement .count)
+  pub ready-enforcement : (stand : Stand) (r : Record) (t : Survey) → r ≡ OfEnforcement t → Ready stand bytes r v s o d → SurveyReady t (v .enforcement .count) s (o .concentrations) (o .flows)
   ready-enforcement stand r t q k = ready-survey stand t (v .enforcement .count) (omega arith) (enforcement-ok v (runsOf stand) t (judged stand r (OfEnforcement t) q k) .1) (k .kept)
 
-  pub ready-plant : (stand : Stand) (r : Record) (t : Survey) → r ≡ OfPlant t → Ready stand bytes r v s o d → SurveyReady t (v .plant .count)
+  pub ready-plant : (stand : Stand) (r : Record) (t : Survey) → r ≡ OfPlant t → Ready stand bytes r v s o d → SurveyReady t (v .plant .count) s (o .concentrations) (o .flows)
   ready-plant stand r t q k = ready-survey stand t (v .plant .count) (omega arith) (plant-ok v (runsOf stand) t (judged stand r (OfPlant t) q k)) (k .kept)
 
   pub ready-batch : (stand : Stand) (r : Record) (b : Batch) → r ≡ OfBatch b → Ready stand bytes r v s o d

@@ -1,10 +1,10 @@
 -- What the functions that close a line promise each other.
-use Prim.Native.Nat.{ℕ, _+_, _-_, _*_, _≤_}
+use Prim.Native.Nat.{ℕ, _+_, _-_, _*_, _<_, _≤_}
 use mathlib.Core.List.{List}
 use mathlib.Core.Path.{_≡_}
-use lib.ListN.{take, getD, set}
+use lib.ListN.{length, take, getD, set}
 use lib.Dec.{eqb}
-use Rattle.law.specs.Numbers.{hoursOfDay, mostConcentration, mostFlow, perGram}
+use Rattle.law.specs.Numbers.{hoursOfDay, mostHours, mostSurveys, mostConcentration, mostFlow, mostAmount, perGram}
 use Rattle.law.specs.Words.{pick, halvesUp}
 use Rattle.fills.specs.Gaps.{filledCells}
 use Rattle.fills.specs.Weights.{products}
@@ -34,6 +34,15 @@ pub record FilledLine (states : List ℕ) (days : ℕ) (conc flow conc' flow' : 
 pub record Limits (conc flow : List ℕ) : Type 0 where
   pub concentrations : (h : ℕ) → getD conc h 0 ≤ mostConcentration
   pub flows : (h : ℕ) → getD flow h 0 ≤ mostFlow
+
+-- what a line's grams ask, by its method
+pub record GramsReady (method : ℕ) (v : View) (s : Sums) (conc flow : List ℕ) : Type 0 where
+  pub concLong : hoursOfDay * v .head .days ≤ length conc
+  pub flowLong : hoursOfDay * v .head .days ≤ length flow
+  pub weighed : method ≡ 1 → periodWeight (v .head .days) conc flow ≤ mostHours * mostAmount
+  pub weight : s .weight ≤ mostSurveys * mostAmount
+  pub running : v .running ≤ mostHours
+  pub some : method ≡ 2 → 0 < s .surveyed
 
 -- the grams of a line by its method and its cells, which are filled under method 1
 abbrev pub lineGrams : ℕ → View → Sums → List ℕ → List ℕ → ℕ

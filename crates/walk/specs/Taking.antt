@@ -24,6 +24,25 @@ use Rattle.walk.specs.Closing.{gramsIn, Limits, LineGrams, withGrams}
 use Rattle.fuel.specs.Fuel.{fuelFigure}
 use Rattle.walk.specs.Books.{putFrom, Done}
 
+-- what a day asks
+pub record DayReady (bytes : List ℕ) (v : View) (m : Masks) (conc flow : List ℕ) : Type 0 where
+  pub day : m .day < mostDays
+  pub concLong : length conc ≡ mostHours
+  pub flowLong : length flow ≡ mostHours
+  pub days : v .days < mostDays
+  pub running : v .running ≤ mostHours
+  pub missing : v .missing ≤ mostHours
+  pub whole : 205 ≤ length bytes
+
+-- what a survey asks, of whose kind there are so many
+pub record SurveyReady (t : Survey) (count : ℕ) (s : Sums) (conc flow : List ℕ) : Type 0 where
+  pub hour : t .hour < mostHours
+  pub concLong : length conc ≡ mostHours
+  pub flowLong : length flow ≡ mostHours
+  pub room : count < mostSurveys
+  pub surveyed : s .surveyed < mostSurveys
+  pub weight : s .weight ≤ mostSurveys * mostAmount
+
 -- a head: cells and flags are 0
 pub record HeadTaken (v : View) (s : Sums) (h : Head) (flags conc flow flags' conc' flow' : List ℕ) (r : Taken) : Type 0 where
   pub faults : r .fault ≡ fine

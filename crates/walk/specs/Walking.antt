@@ -37,7 +37,7 @@ pub record Took (stand : Stand) (bytes : List ℕ) (r : Record) (t : Taken) (o :
   pub faults : t .fault ≡ judgeReadings bytes r
   pub stays : t .fault .number ≡ 0 → Kept (taken stand bytes r) (t .view) (t .sums) o d
 
--- the promise of `take`: so wherever the walk stands
+-- the promise of `take_in`: so wherever the walk stands
 abbrev pub Takes : List ℕ → Record → View → Sums → Open → Done → Open → Done → Taken → Type 0
 Takes bytes r v s o d o' d' t = (stand : Stand) → Ready stand bytes r v s o d → Took stand bytes r t o' d'
 

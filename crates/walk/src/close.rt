@@ -8,7 +8,7 @@ ghost use lib.ListN.{length, getD};
 ghost use Rattle.law.specs.Numbers.{hoursOfDay, mostHours, mostLines, totalCells, mostSurveys, mostAmount, perGram, mostGrams};
 ghost use Rattle.law.specs.Words.{halvesUp};
 ghost use Rattle.fills.specs.Weights.{products};
-ghost use Rattle.walk.specs.Closing.{gramsIn, periodWeight, lineGrams, withGrams};
+ghost use Rattle.walk.specs.Closing.{gramsIn, periodWeight, GramsReady, lineGrams, withGrams};
 
 fn grams_in(f: FuelFigure) -> u64
     ensures { λ r. ⌜ r ≡ gramsIn f ⌝ }
@@ -54,7 +54,7 @@ fn grams_of(weight: u64, n: u32) -> u64
 
 // The grams of a line by its method and its cells, which are filled under method 1.
 pub fn line_grams(method: u32, v: View, s: Sums, conc: &[u32], flow: &[u32]) -> u64
-    requires { ⌜ (hoursOfDay * v .head .days ≤ length (now conc)) × (hoursOfDay * v .head .days ≤ length (now flow)) × (method ≡ 1 → periodWeight (v .head .days) (now conc) (now flow) ≤ mostHours * mostAmount) × (s .weight ≤ mostSurveys * mostAmount) × (v .running ≤ mostHours) × (method ≡ 2 → 0 < s .surveyed) ⌝ }
+    requires { ⌜ GramsReady method v s (now conc) (now flow) ⌝ }
     ensures { λ r. ⌜ r ≡ lineGrams method v s (now (conc .entry)) (now (flow .entry)) ⌝ }
 {
     let h = v.head;

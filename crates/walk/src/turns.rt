@@ -4,7 +4,7 @@ use crate::books::NO_SUMS;
 use crate::books::Sums;
 use crate::take::FINE;
 use crate::take::Taken;
-use crate::take::take;
+use crate::take::take_in;
 use rules::Fault;
 use rules::Record;
 use rules::View;
@@ -88,7 +88,8 @@ fn step(
     totals: &mut [u64; 3],
 ) -> Progress
     requires { ⌜ Reached (now file) p (inOpen (now runs) (now measured) (now flags) (now conc) (now flow)) (inDone (now rows) (now totals)) × (p .at < length (now file)) ⌝ }
-    ensures { λ q. ⌜ Reached (now (file .entry)) q (inOpen (now (runs .exit)) (now (measured .exit)) (now (flags .exit)) (now (conc .exit)) (now (flow .exit))) (inDone (now (rows .exit)) (now (totals .exit)))
+    ensures { λ q. ⌜ Reached (now (file .entry)) q (inOpen (now (runs .exit)) (now (measured .exit)) (now (flags .exit)) (now (conc .exit)) (now (flow .exit)))
+        (inDone (now (rows .exit)) (now (totals .exit)))
         × (p .at < q .at) ⌝ }
 {
     let at = p.at;
@@ -105,7 +106,7 @@ fn step(
         };
         return moved_on(refused, at, file.len(), file.len());
     }
-    let t = take(
+    let t = take_in(
         bytes,
         r,
         v,

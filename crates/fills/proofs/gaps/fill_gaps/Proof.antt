@@ -18,26 +18,26 @@ gather-requires c κs =
     let p = c .before .before .before .before .before .before .before .pre in
     (p .1, p .2, p .0, p .0)
 
-sub-walk : tie.Need-sub-walk
-sub-walk c = search needs
+sub-fill-along : tie.Need-sub-fill-along
+sub-fill-along c = search needs
 
-part-walk-start : tie.Need-part-walk-start
-part-walk-start c = search needs
+part-fill-along-start : tie.Need-part-fill-along-start
+part-fill-along-start c = search needs
 
-part-walk-end : tie.Need-part-walk-end
-part-walk-end c = search needs
+part-fill-along-end : tie.Need-part-fill-along-end
+part-fill-along-end c = search needs
 
-sub-walk-2 : tie.Need-sub-walk-2
-sub-walk-2 c = search needs
+sub-fill-along-2 : tie.Need-sub-fill-along-2
+sub-fill-along-2 c = search needs
 
-part-walk-start-2 : tie.Need-part-walk-start-2
-part-walk-start-2 c = search needs
+part-fill-along-start-2 : tie.Need-part-fill-along-start-2
+part-fill-along-start-2 c = search needs
 
-part-walk-end-2 : tie.Need-part-walk-end-2
-part-walk-end-2 c = search needs
+part-fill-along-end-2 : tie.Need-part-fill-along-end-2
+part-fill-along-end-2 c = search needs
 
-walk-requires : tie.Need-walk-requires
-walk-requires c κs =
+fill-along-requires : tie.Need-fill-along-requires
+fill-along-requires c κs =
     let g = c .before .before .before .before .before .before .before .before in
     let e = g .gather .ensures in
     let p = g .before .before .before .before .before .before .before .before .pre in
@@ -50,7 +50,7 @@ same-length-2 : tie.Need-same-length-2
 same-length-2 c = search needs
 
 returns : tie.Need-returns
-returns c = c .before .before .before .before .walk .ensures
+returns c = c .before .before .before .before .fill-along .ensures
 
 pub fill-gaps-spec : {M : Type 1} → statement M
 fill-gaps-spec =
@@ -59,13 +59,13 @@ fill-gaps-spec =
     slice-aggregate-gather
     slice-aggregate-gather-2
     gather-requires
-    sub-walk
-    part-walk-start
-    part-walk-end
-    sub-walk-2
-    part-walk-start-2
-    part-walk-end-2
-    walk-requires
+    sub-fill-along
+    part-fill-along-start
+    part-fill-along-end
+    sub-fill-along-2
+    part-fill-along-start-2
+    part-fill-along-end-2
+    fill-along-requires
     same-length
     same-length-2
     returns)

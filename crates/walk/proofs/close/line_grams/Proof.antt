@@ -12,10 +12,10 @@ use Rattle.walk.proofs.close.line_grams.Statement.{statement}
 use Rattle.walk.proofs.close.line_grams.Tie as tie
 
 period-weight-requires : tie.Need-period-weight-requires
-period-weight-requires c κs = let p = c .before .before .before .before .pre in (p .0, p .1, omega (arith, p .2 (c .if1 .taken)))
+period-weight-requires c κs = let p = c .before .before .before .before .pre in (p .concLong, p .flowLong, omega (arith, p .weighed (c .if1 .taken)))
 
 grams-of-requires : tie.Need-grams-of-requires
-grams-of-requires c κs = let t = c .before in let p = t .before .before .before .before .pre in (omega arith, omega (arith, c .period-weight .ensures, p .2 (t .if1 .taken)))
+grams-of-requires c κs = let t = c .before in let p = t .before .before .before .before .pre in (omega arith, omega (arith, c .period-weight .ensures, p .weighed (t .if1 .taken)))
 
 returns : tie.Need-returns
 returns c =
@@ -23,10 +23,10 @@ returns c =
     pick-eq _ _ _ _ _ (w .before .if1 .taken) (c .grams-of .ensures ∙ ap (λ (n : ℕ). halvesUp n (1 * perGram)) (w .period-weight .ensures))
 
 mul-grams-of : tie.Need-mul-grams-of
-mul-grams-of c = let p = c .before .before .before .before .before .before .before .pre in omega (arith, mul-le-mul (p .3) (p .4))
+mul-grams-of c = let p = c .before .before .before .before .before .before .before .pre in omega (arith, mul-le-mul (p .weight) (p .running))
 
 grams-of-requires-2 : tie.Need-grams-of-requires-2
-grams-of-requires-2 c κs = let p = c .before .before .before .before .before .before .before .pre in (p .5 (c .before .before .if2 .taken), mul-le-mul (p .3) (p .4))
+grams-of-requires-2 c κs = let p = c .before .before .before .before .before .before .before .pre in (p .some (c .before .before .if2 .taken), mul-le-mul (p .weight) (p .running))
 
 returns-2 : tie.Need-returns-2
 returns-2 c =

@@ -28,8 +28,8 @@ returns c =
     let g = p .0 .goes (p .0 .reads (p .1)) in
     step-refused _ _ _ _ _ _ g (p .1) _ (j .before .before .before .read-record .ensures) _ (j .judged .ensures) (t .if1 .taken) _ (c .moved-on .ensures)
 
-take-requires : tie.Need-take-requires
-take-requires c κs =
+take-in-requires : tie.Need-take-in-requires
+take-in-requires c κs =
     let e = c .before .before .before .before .before .before .before in
     let j = e .before .before in
     let p = j .before .before .before .before .before .before .before .before .before .before .pre in
@@ -51,7 +51,7 @@ moved-on-requires-2 c κs =
     let j = e .before .before in
     let p = j .before .before .before .before .before .before .before .before .before .before .pre in
     let g = p .0 .goes (p .0 .reads (p .1)) in
-    taken-within _ _ _ _ _ _ g (p .1) _ (j .before .before .before .read-record .ensures) _ (j .judged .ensures) (e .if1 .left) _ _ _ (t .take .ensures)
+    taken-within _ _ _ _ _ _ g (p .1) _ (j .before .before .before .read-record .ensures) _ (j .judged .ensures) (e .if1 .left) _ _ _ (t .take-in .ensures)
 
 returns-2 : tie.Need-returns-2
 returns-2 c =
@@ -60,7 +60,7 @@ returns-2 c =
     let j = e .before .before in
     let p = j .before .before .before .before .before .before .before .before .before .before .pre in
     let g = p .0 .goes (p .0 .reads (p .1)) in
-    step-on _ _ _ _ _ _ g (p .1) _ (j .before .before .before .read-record .ensures) _ (j .judged .ensures) (e .if1 .left) _ _ _ (t .take .ensures) _ _ (c .before .size-in .ensures) (c .moved-on2 .ensures)
+    step-on _ _ _ _ _ _ g (p .1) _ (j .before .before .before .read-record .ensures) _ (j .judged .ensures) (e .if1 .left) _ _ _ (t .take-in .ensures) _ _ (c .before .size-in .ensures) (c .moved-on2 .ensures)
 
 pub step-spec : {M : Type 1} → statement M
 step-spec =
@@ -73,7 +73,7 @@ step-spec =
     judged-requires
     moved-on-requires
     returns
-    take-requires
+    take-in-requires
     (λ c κs. search needs)
     add-moved-on
     moved-on-requires-2

@@ -10,11 +10,11 @@ use lib.ListN.{length, getD, length-append, List·getD-append, List·getD-eq-def
 use lib.Seq.{getD-append-add}
 use Rattle.law.specs.Numbers.{hoursOfDay}
 use Rattle.law.specs.Words.{table}
-use Rattle.law.proofs.Tables.{table-length, table-at}
+use Rattle.law.proofs.Tabled.{table-length, table-at}
 use Rattle.rules.specs.declared.Pair.{Pair}
 use Rattle.rules.specs.Records.{Day}
 use Rattle.rules.specs.Slots.{Slot, stopped}
 use Rattle.rules.specs.Hours.{slotOf, slotsOf, runMasks, measuredMasks}
 
 -- a list to which each day adds n elements at its end: how long it is, and what stands in it at place h of day k
 module _ {A : Type 0} (g : Day → ℕ → A) (n : ℕ) where

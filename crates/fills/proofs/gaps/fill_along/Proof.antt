@@ -1,12 +1,12 @@
--- `fills::gaps::walk` meets its contract: what it holds is held in each quantity. Assumes nothing.
+-- `fills::gaps::fill_along` meets its contract: what it holds is held in each quantity. Assumes nothing.
 use mathlib.Core.Path.{_≡_}
 use Prim.Native.Nat.{_+_, _-_, _≤_}
 use native.Mathlib.Omega.{arith}
 use lib.ListN.{length}
 use Rattle.fills.proofs.Stand.{Stand, stand-start, stand-measured, stand-stopped, stand-gap, stand-end, gap-moves}
 use borrow.Author.Needs.{needs}
-use Rattle.fills.proofs.gaps.walk.Statement.{statement}
-use Rattle.fills.proofs.gaps.walk.Tie as tie
+use Rattle.fills.proofs.gaps.fill_along.Statement.{statement}
+use Rattle.fills.proofs.gaps.fill_along.Tie as tie
 
 abbrev Inv-loop : tie.InvT-loop
 Inv-loop states concentrations₀ flows₀ cs ls empty₀ i₀ concentrations flows empty i =
@@ -117,8 +117,8 @@ returns c =
     let l = c .before .loop in
     (stand-end _ _ _ _ _ (l .i) (c .loop-test .left) (l .inv .1), stand-end _ _ _ _ _ (l .i) (c .loop-test .left) (l .inv .2))
 
-pub walk-spec : {M : Type 1} → statement M
-walk-spec =
+pub fill-along-spec : {M : Type 1} → statement M
+fill-along-spec =
     tie.close
     (tie.spec
     Inv-loop
