@@ -3,7 +3,7 @@ use Prim.Native.Nat.{ℕ, _+_, _*_, _^_, _≤_, _<_}
 use mathlib.Core.List.{List, [], List·Memᴰ}
 use mathlib.Core.Path.{_≡_}
 use lib.ListN.{length, take, drop, getD}
-use Rattle.law.specs.Numbers.{perGram}
+use Rattle.law.specs.Numbers.{rowCells, perGram}
 use Rattle.law.specs.Words.{sumOf, apart}
 use Rattle.rules.specs.Slots.{entries}
 use Rattle.rules.specs.Hours.{running}
@@ -66,8 +66,8 @@ EveryLineNear = (file : List ℕ) (lines : List Line) → outcome file ≡ Accep
 
 -- the i-th row that a call leaves is that of a line whose grams are within its allowance
 pub record RowNear (lines : List Line) (rows : List ℕ) (i : ℕ) : Type 0 where
-  pub row : IsRow lines (take 7 (drop (7 * i) rows))
-  pub grams : getD rows (7 * i + 3) 0 ≡ grams (row .line)
+  pub row : IsRow lines (take rowCells (drop (rowCells * i) rows))
+  pub grams : getD rows (rowCells * i + 3) 0 ≡ grams (row .line)
   pub near : Near (row .line)
 
 -- demand 3 as its reader has it: for every call of `account` that answers 0, every row that it leaves

@@ -7,7 +7,7 @@ use mathlib.Core.Path.{_≡_}
 use lib.ListN.{length, take, drop, getD}
 use lib.Ieee.Exact.{HasValue}
 use denote.Ref.{RefT, ptr, now}
-use Rattle.law.specs.Numbers.{mostHours}
+use Rattle.law.specs.Numbers.{mostHours, rowCells}
 use Rattle.reading.specs.{declared.Hour.Hour, Reading.reading, Reading.allowed, Reading.exact}
 use Rattle.rules.specs.{declared.Head.Head, declared.Answer.Answer, Lines.Line, Grams.grams, Row.rowOf, Walk.Accepted, Walk.outcome, Account.Promise}
 use Rattle.answers.specs.Heads.{headsOf}
@@ -51,7 +51,7 @@ pub record Taken (v : Version) (rows : ℕ) : Type 0 where
   pub count : v call .answer .rows ≡ rows
 
 abbrev pub gramsIn : Result → ℕ → ℕ
-gramsIn r i = getD (r .rows) (7 * i + 3) 0
+gramsIn r i = getD (r .rows) (rowCells * i + 3) 0
 
 -- the four versions that have to be shut out: what a version does that is none of them
 pub record NoneOfFour (v : Version) : Type 0 where
@@ -69,8 +69,8 @@ pub record RowNear (file : List ℕ) (lines : List Line) (rows : List ℕ) (i : 
   pub line : Line
   pub place : (other : Line) → getD lines (length lines - 1 - i) other ≡ line
   pub opened : (other : Head) → getD (headsOf file) i other ≡ line .head
-  pub row : take 7 (drop (7 * i) rows) ≡ rowOf line
-  pub grams : getD rows (7 * i + 3) 0 ≡ grams line
+  pub row : take rowCells (drop (rowCells * i) rows) ≡ rowOf line
+  pub grams : getD rows (rowCells * i + 3) 0 ≡ grams line
   pub near : Near line
 
 -- what demand 3 says of a version: for every call that it accepts, a row for each line of the file, and every row near

@@ -43,8 +43,8 @@ Gathered states concentrations flows cs ls r =
     (r ≤ length states) × (take r cs ≡ valids (row states concentrations)) × (take r ls ≡ valids (row states flows))
 
 -- every valid value stands by itself, and each hour has its cell
-abbrev pub Kept : List ℕ → List ℕ → List ℕ → List ℕ → List ℕ → Type 0
-Kept states concentrations flows cs ls =
+abbrev pub Aside : List ℕ → List ℕ → List ℕ → List ℕ → List ℕ → Type 0
+Aside states concentrations flows cs ls =
     (length states ≤ length concentrations) × (length states ≤ length flows) × (cs ≡ valids (row states concentrations)) × (ls ≡ valids (row states flows))
 
 -- the gaps of both quantities filled

@@ -3,7 +3,7 @@ ghost use mathlib.Core.Path.{_≡_};
 ghost use Prim.Native.Nat.{_≤_};
 ghost use lib.ListN.{length};
 ghost use Rattle.law.specs.Numbers.{mostHours};
-ghost use Rattle.fills.specs.Parts.{patched, Roomy, Gathered, Kept, FilledBoth, gapFill};
+ghost use Rattle.fills.specs.Parts.{patched, Roomy, Gathered, Aside, FilledBoth, gapFill};
 use crate::stretch::Gap;
 use crate::stretch::filler;
 use crate::stretch::run_end;
@@ -46,7 +46,7 @@ fn fill_one(states: &[u8], values: &mut [u32], kept: &[u32], first: usize, b: us
 
 // Every gap, from the first hour on: of the hours before `i`, `empty` are not measured.
 fn fill_along(states: &[u8], concentrations: &mut [u32], flows: &mut [u32], cs: &[u32], ls: &[u32])
-    requires { ⌜ Kept (now states) (now concentrations) (now flows) (now cs) (now ls) ⌝ }
+    requires { ⌜ Aside (now states) (now concentrations) (now flows) (now cs) (now ls) ⌝ }
     ensures { λ _. ⌜ FilledBoth (now (states .entry)) (now (concentrations .entry)) (now (flows .entry)) (now (concentrations .exit)) (now (flows .exit)) ⌝ }
 {
     let mut empty: usize = 0;

@@ -1,8 +1,8 @@
 // An end judged: 2, then 6 and 7 by the line's method.
-use crate::faults::FINE;
 use crate::faults::first_of;
 use crate::faults::refuse_unless;
 use rules::Coefficients;
+use rules::FINE;
 use rules::Fault;
 use rules::View;
 ghost use mathlib.Core.Path.{_≡_};

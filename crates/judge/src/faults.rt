@@ -1,14 +1,9 @@
 // A refusal as number and offset: one where a test fails, and the first of two.
+use rules::FINE;
 use rules::Fault;
 ghost use mathlib.Core.Path.{_≡_};
 ghost use Rattle.law.specs.Words.{need};
 ghost use Rattle.rules.specs.Judge.{refuse, fine, first};
-
-// Nothing is refused.
-pub const FINE: Fault = Fault {
-    number: 0,
-    place: 0,
-};
 
 // The refusal, at the record's start, of what does not fit. Tests are taken together, with no branch between them.
 pub fn refuse_unless(number: u32, fits: bool) -> Fault

@@ -4,6 +4,7 @@ use mathlib.Core.List.{List, [], _++_}
 use mathlib.Core.Path.{_≡_}
 use lib.ListN.{length, take, drop}
 use lib.Dec.{leb}
+use Rattle.law.specs.Numbers.{mostLines, rowCells}
 use Rattle.law.specs.Words.{need}
 use Rattle.text.specs.Numbers.{spaced}
 use Rattle.text.specs.Line.{totalsLine}
@@ -17,7 +18,7 @@ pub record Text (bytes old new : List ℕ) (count : ℕ) : Type 0 where
 -- the texts of the first n rows
 unfoldable pub rowsText : List ℕ → ℕ → List ℕ
 rowsText rows zero = []
-rowsText rows (suc n) = rowsText rows n ++ spaced (take 7 (drop (7 * n) rows))
+rowsText rows (suc n) = rowsText rows n ++ spaced (take rowCells (drop (rowCells * n) rows))
 
 -- the rows, then the totals
 unfoldable pub statedText : List ℕ → ℕ → List ℕ → List ℕ
@@ -25,4 +26,4 @@ statedText rows n totals = rowsText rows n ++ totalsLine totals
 
 -- the same of at most 48 rows that are all there; of other rows there is no text
 unfoldable pub statedLines : List ℕ → ℕ → List ℕ → List ℕ
-statedLines rows n totals = need [] (leb n 48) (need [] (leb (7 * n) (length rows)) (statedText rows n totals))
+statedLines rows n totals = need [] (leb n mostLines) (need [] (leb (rowCells * n) (length rows)) (statedText rows n totals))

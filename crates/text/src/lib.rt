@@ -1,6 +1,7 @@
 // The texts that the program prints, written into a lent buffer: a refusal, or rows and totals.
 ghost use Prim.Native.Nat.{_*_, _≤_};
 ghost use lib.ListN.{length};
+ghost use Rattle.law.specs.Numbers.{rowCells};
 ghost use Rattle.rules.specs.Judge.{refuse};
 ghost use Rattle.text.specs.Written.{Wrote};
 ghost use Rattle.text.specs.Line.{refusedLine};
@@ -27,7 +28,7 @@ pub fn refused_text(text: &mut [u8], number: u64, place: u64) -> usize
 
 // A line for each of the first n rows; a row of seven numbers is at most 148 bytes long.
 fn put_rows(text: &mut [u8], rows: &[u64], n: usize) -> usize
-    requires { ⌜ (7 * n ≤ length (now rows)) × (148 * n ≤ length (now text)) ⌝ }
+    requires { ⌜ (rowCells * n ≤ length (now rows)) × (148 * n ≤ length (now text)) ⌝ }
     ensures { λ r. ⌜ Wrote (now (text .entry)) 0 (rowsText (now (rows .entry)) n) (now (text .exit)) r ⌝ }
 {
     let mut end: usize = 0;

@@ -23,6 +23,12 @@ pub struct Walked {
     pub rows: [u64; 336],
 }
 
+// "A work slice under 2,208 cells", with place 0.
+const TOO_SHORT: Fault = Fault {
+    number: 9,
+    place: 0,
+};
+
 // "A file refusal answers number, byte offset .., row count and totals 0."
 fn refused(f: Fault) -> Walked
     ensures { λ r. ⌜ r ≡ stopped f ⌝ }
@@ -76,16 +82,10 @@ pub fn walk_file(file: &[u8], concentrations: &mut [u32], flows: &mut [u32]) -> 
     ensures { λ r. ⌜ Promise (now (file .entry)) noRows (now (concentrations .entry)) (now (flows .entry)) (r .answer) (r .rows) (now (concentrations .exit)) (now (flows .exit)) ⌝ }
 {
     if !cells::holds_quarter(concentrations) {
-        return refused(Fault {
-            number: 9,
-            place: 0,
-        });
+        return refused(TOO_SHORT);
     }
     if !cells::holds_quarter(flows) {
-        return refused(Fault {
-            number: 9,
-            place: 0,
-        });
+        return refused(TOO_SHORT);
     }
     settle(file, &mut concentrations[0..2208], &mut flows[0..2208])
 }

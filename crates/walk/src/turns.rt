@@ -2,9 +2,9 @@
 use crate::books::BEGIN;
 use crate::books::NO_SUMS;
 use crate::books::Sums;
-use crate::take::FINE;
 use crate::take::Taken;
 use crate::take::take_in;
+use rules::FINE;
 use rules::Fault;
 use rules::Record;
 use rules::View;
