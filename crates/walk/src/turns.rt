@@ -106,6 +106,7 @@ fn step(
         };
         return moved_on(refused, at, file.len(), file.len());
     }
+    let next = at + record::size_in(bytes);
     let t = take_in(
         bytes,
         r,
@@ -119,7 +120,7 @@ fn step(
         rows,
         totals,
     );
-    moved_on(t, at, at + record::size_in(bytes), file.len())
+    moved_on(t, at, next, file.len())
 }
 
 // A file that is not refused may still end inside a line.

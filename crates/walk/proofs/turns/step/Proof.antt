@@ -28,26 +28,26 @@ returns c =
     let g = p .0 .goes (p .0 .reads (p .1)) in
     step-refused _ _ _ _ _ _ g (p .1) _ (j .before .before .before .read-record .ensures) _ (j .judged .ensures) (t .if1 .taken) _ (c .moved-on .ensures)
 
-take-in-requires : tie.Need-take-in-requires
-take-in-requires c κs =
-    let e = c .before .before .before .before .before .before .before in
-    let j = e .before .before in
-    let p = j .before .before .before .before .before .before .before .before .before .before .pre in
-    let g = p .0 .goes (p .0 .reads (p .1)) in
-    ready _ _ _ _ _ _ g (p .1) _ (j .before .before .before .read-record .ensures) _ (j .judged .ensures) (e .if1 .left)
-
-add-moved-on : tie.Need-add-moved-on
-add-moved-on c =
-    let e = c .before .before .before .before .before .before .before .before .before .before .before .before .before in
+add-next : tie.Need-add-next
+add-next c =
+    let e = c .before in
     let j = e .before .before in
     let p = j .before .before .before .before .before .before .before .before .before .before .pre in
     let g = p .0 .goes (p .0 .reads (p .1)) in
     omega (arith, fits _ _ _ _ _ _ g (p .1) _ (j .before .before .before .read-record .ensures) _ (j .judged .ensures) (e .if1 .left), c .size-in .ensures, j .before .before .before .before .before .before .before .before .before)
 
+take-in-requires : tie.Need-take-in-requires
+take-in-requires c κs =
+    let e = c .before .before .before .before .before .before .before .before in
+    let j = e .before .before in
+    let p = j .before .before .before .before .before .before .before .before .before .before .pre in
+    let g = p .0 .goes (p .0 .reads (p .1)) in
+    ready _ _ _ _ _ _ g (p .1) _ (j .before .before .before .read-record .ensures) _ (j .judged .ensures) (e .if1 .left)
+
 moved-on-requires-2 : tie.Need-moved-on-requires-2
 moved-on-requires-2 c κs =
-    let t = c .before .before .before .before .before in
-    let e = t .before .before .before .before .before .before .before .before in
+    let t = c .before .before .before .before in
+    let e = t .before .before .before .before .before .before .before .before .before in
     let j = e .before .before in
     let p = j .before .before .before .before .before .before .before .before .before .before .pre in
     let g = p .0 .goes (p .0 .reads (p .1)) in
@@ -55,12 +55,13 @@ moved-on-requires-2 c κs =
 
 returns-2 : tie.Need-returns-2
 returns-2 c =
-    let t = c .before .before .before .before .before .before in
-    let e = t .before .before .before .before .before .before .before .before in
+    let t = c .before .before .before .before .before in
+    let z = t .before .before .before .before .before .before .before .before in
+    let e = z .before in
     let j = e .before .before in
     let p = j .before .before .before .before .before .before .before .before .before .before .pre in
     let g = p .0 .goes (p .0 .reads (p .1)) in
-    step-on _ _ _ _ _ _ g (p .1) _ (j .before .before .before .read-record .ensures) _ (j .judged .ensures) (e .if1 .left) _ _ _ (t .take-in .ensures) _ _ (c .before .size-in .ensures) (c .moved-on2 .ensures)
+    step-on _ _ _ _ _ _ g (p .1) _ (j .before .before .before .read-record .ensures) _ (j .judged .ensures) (e .if1 .left) _ _ _ (t .take-in .ensures) _ _ (z .size-in .ensures) (c .moved-on2 .ensures)
 
 pub step-spec : {M : Type 1} → statement M
 step-spec =
@@ -73,9 +74,9 @@ step-spec =
     judged-requires
     moved-on-requires
     returns
-    take-in-requires
     (λ c κs. search needs)
-    add-moved-on
+    add-next
+    take-in-requires
     moved-on-requires-2
     (λ c. search needs)
     (λ c. search needs)
