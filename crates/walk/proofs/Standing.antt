@@ -110,13 +110,13 @@ kept-day x done bytes v s o e runs' measured' conc' flow' r k more turn t ok f =
     let d = dayOf bytes in
     let n = length (x .days) in
     let m = masksOf bytes in
-    let cv : ℕ → ℕ = λ i. getD (table (concentrationAt d) hoursOfDay) i 0 in
-    let lv : ℕ → ℕ = λ i. getD (table (flowAt d) hoursOfDay) i 0 in
+    let cv = concentrationAt d in
+    let lv = flowAt d in
     let er : runs' ≡ set (o .runs) n (m .run) = t .runsNow ok ∙ ap (λ (i : ℕ). set (o .runs) i (m .run)) turn in
     let em : measured' ≡ set (o .measured) n (m .measured) = t .measuredNow ok ∙ ap (λ (i : ℕ). set (o .measured) i (m .measured)) turn in
     let ec : conc' ≡ putFrom cv hoursOfDay (hoursOfDay * n) (o .concentrations) = t .concNow ok ∙ ap (λ (i : ℕ). putFrom cv hoursOfDay (hoursOfDay * i) (o .concentrations)) turn in
     let el : flow' ≡ putFrom lv hoursOfDay (hoursOfDay * n) (o .flows) = t .flowNow ok ∙ ap (λ (i : ℕ). putFrom lv hoursOfDay (hoursOfDay * i) (o .flows)) turn in
-    let books = day-books x d (k .books) more cv lv (λ i l. day-c d f i l ∙ sym (table-at (concentrationAt d) hoursOfDay i 0 l)) (λ i l. day-l d f i l ∙ sym (table-at (flowAt d) hoursOfDay i 0 l)) (λ i l. subst (λ (q : ℕ). q ≤ mostConcentration) (sym (table-at (concentrationAt d) hoursOfDay i 0 l)) (concentration-most d i)) (λ i l. subst (λ (q : ℕ). q ≤ mostFlow) (sym (table-at (flowAt d) hoursOfDay i 0 l)) (flow-most d i)) (k .long) in
+    let books = day-books x d (k .books) more cv lv (day-c d f) (day-l d f) (λ i l. concentration-most d i) (λ i l. flow-most d i) (k .long) in
     kept-line x (withDay x d) done k (t .view ok ∙ ap (λ (w : View). afterDay w m) (k .view) ∙ view-day x done d)
     (long-as _ _ _ _ _ (k .long) (ap length er ∙ length-set (o .runs) n (m .run)) (ap length em ∙ length-set (o .measured) n (m .measured)) refl
     (ap length ec ∙ put-length cv hoursOfDay (hoursOfDay * n) (o .concentrations) (omega (arith, k .books .period, k .long .concentrations)))

@@ -5,7 +5,7 @@ use mathlib.Core.List.{List}
 use mathlib.Core.Path.{_≡_}
 use lib.ListN.{length, getD, set}
 use Rattle.law.specs.Numbers.{hoursOfDay, mostDays, mostHours, mostLines, rowCells, totalCells, mostSurveys, mostAmount, mostGrams}
-use Rattle.law.specs.Words.{table, over}
+use Rattle.law.specs.Words.{over}
 use Rattle.rules.specs.declared.Head.{Head}
 use Rattle.rules.specs.declared.Masks.{Masks}
 use Rattle.rules.specs.declared.Survey.{Survey}
@@ -59,8 +59,8 @@ pub record DayTaken (bytes : List ℕ) (v : View) (s : Sums) (m : Masks) (runs m
   pub sums : r .sums ≡ s
   pub runsNow : r .fault .number ≡ 0 → runs' ≡ set runs (m .day) (m .run)
   pub measuredNow : r .fault .number ≡ 0 → measured' ≡ set measured (m .day) (m .measured)
-  pub concNow : r .fault .number ≡ 0 → conc' ≡ putFrom (λ k. getD (table (concentrationAt (dayOf bytes)) hoursOfDay) k 0) hoursOfDay (hoursOfDay * m .day) conc
-  pub flowNow : r .fault .number ≡ 0 → flow' ≡ putFrom (λ k. getD (table (flowAt (dayOf bytes)) hoursOfDay) k 0) hoursOfDay (hoursOfDay * m .day) flow
+  pub concNow : r .fault .number ≡ 0 → conc' ≡ putFrom (concentrationAt (dayOf bytes)) hoursOfDay (hoursOfDay * m .day) conc
+  pub flowNow : r .fault .number ≡ 0 → flow' ≡ putFrom (flowAt (dayOf bytes)) hoursOfDay (hoursOfDay * m .day) flow
 
 -- an enforcement survey, in a measured hour or another
 pub record EnforcementTaken (v : View) (s : Sums) (t : Survey) (measured : Bool) (flags conc flow flags' conc' flow' : List ℕ) (r : Taken) : Type 0 where
