@@ -118,16 +118,16 @@ sign-zero false m e h t = absurd (false-true t)
 sign-zero true zero e h t = ap (λ (n : ℕ). n * 2 ^ 149 / down e) (zero-mul (up e)) ∙ ap (λ (n : ℕ). n / down e) (zero-mul (2 ^ 149)) ∙ zero-div (down e)
 sign-zero true (suc m) e h t = absurd (false-true (ap (λ (b : Bool). not (not b)) (sym (ne-eqb (suc m) 0 (λ z. omega arith))) ∙ h))
 
-whole : (x : Float) → T (fits binary32 x) → allowed x ≡ true → (sign : Bool) × HasValue x sign (exact x) (2 ^ 149) × (sign ≡ true → exact x ≡ 0)
+finite-exact : (x : Float) → T (fits binary32 x) → allowed x ≡ true → (sign : Bool) × HasValue x sign (exact x) (2 ^ 149) × (sign ≡ true → exact x ≡ 0)
 unfolding allowed
-whole nan f h = absurd (false-true h)
-whole (inf s) f h = absurd (false-true h)
-whole (fin s m e) f h = (s, (refl, sym (units-exact s m e f)), sign-zero s m e h)
+finite-exact nan f h = absurd (false-true h)
+finite-exact (inf s) f h = absurd (false-true h)
+finite-exact (fin s m e) f h = (s, (refl, sym (units-exact s m e f)), sign-zero s m e h)
 
 in-units : (bits : ℕ) → allowed (reading bits) ≡ true
     → (sign : Bool) × HasValue (reading bits) sign (exact (reading bits)) (2 ^ 149) × (sign ≡ true → exact (reading bits) ≡ 0)
 unfolding reading
-in-units bits h = whole (reading bits) (ofBits-fits binary32 bits) h
+in-units bits h = finite-exact (reading bits) (ofBits-fits binary32 bits) h
 
 -- ---- the panel
 panel-exact : (hs : List Hour) → PanelExact hs

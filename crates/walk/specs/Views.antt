@@ -25,29 +25,55 @@ noSurveys = record { count = 0; floor = 0 }
 -- a view with nothing taken in yet but a head
 abbrev pub openedView : Bool → ℕ → ℕ → Head → View
 openedView inside lines floor head =
-    record { inside = inside; lines = lines; floor = floor; head = head; days = 0; running = 0; missing = 0; enforcement = noSurveys; plant = noSurveys; batches = 0; fuel = 0 }
+    record {
+      inside = inside;
+      lines = lines;
+      floor = floor;
+      head = head;
+      days = 0;
+      running = 0;
+      missing = 0;
+      enforcement = noSurveys;
+      plant = noSurveys;
+      batches = 0;
+      fuel = 0;
+    }
 
 abbrev pub afterHead : View → Head → View
 afterHead v h = openedView true (v .lines) (key h + 1) h
 
+-- the view of the open line with what a record of it moves
+abbrev pub movedView : View → ℕ → ℕ → ℕ → Surveys → Surveys → ℕ → ℕ → View
+movedView v days running missing enforcement plant batches fuel =
+    record {
+      inside = v .inside;
+      lines = v .lines;
+      floor = v .floor;
+      head = v .head;
+      days = days;
+      running = running;
+      missing = missing;
+      enforcement = enforcement;
+      plant = plant;
+      batches = batches;
+      fuel = fuel;
+    }
+
 abbrev pub afterDay : View → Masks → View
 afterDay v m =
-    record { inside = v .inside; lines = v .lines; floor = v .floor; head = v .head; days = v .days + 1; running = runningOf (m .run) + v .running; missing = missingOf (m .run) (m .measured) + v .missing; enforcement = v .enforcement; plant = v .plant; batches = v .batches; fuel = v .fuel }
+    movedView v (v .days + 1) (runningOf (m .run) + v .running) (missingOf (m .run) (m .measured) + v .missing) (v .enforcement) (v .plant) (v .batches) (v .fuel)
 
 abbrev pub oneMore : Surveys → ℕ → Surveys
 oneMore s hour = record { count = s .count + 1; floor = hour + 1 }
 
 abbrev pub afterEnforcement : View → ℕ → View
-afterEnforcement v hour =
-    record { inside = v .inside; lines = v .lines; floor = v .floor; head = v .head; days = v .days; running = v .running; missing = v .missing; enforcement = oneMore (v .enforcement) hour; plant = v .plant; batches = v .batches; fuel = v .fuel }
+afterEnforcement v hour = movedView v (v .days) (v .running) (v .missing) (oneMore (v .enforcement) hour) (v .plant) (v .batches) (v .fuel)
 
 abbrev pub afterPlant : View → ℕ → View
-afterPlant v hour =
-    record { inside = v .inside; lines = v .lines; floor = v .floor; head = v .head; days = v .days; running = v .running; missing = v .missing; enforcement = v .enforcement; plant = oneMore (v .plant) hour; batches = v .batches; fuel = v .fuel }
+afterPlant v hour = movedView v (v .days) (v .running) (v .missing) (v .enforcement) (oneMore (v .plant) hour) (v .batches) (v .fuel)
 
 abbrev pub afterBatch : View → ℕ → View
-afterBatch v kg =
-    record { inside = v .inside; lines = v .lines; floor = v .floor; head = v .head; days = v .days; running = v .running; missing = v .missing; enforcement = v .enforcement; plant = v .plant; batches = v .batches + 1; fuel = kg + v .fuel }
+afterBatch v kg = movedView v (v .days) (v .running) (v .missing) (v .enforcement) (v .plant) (v .batches + 1) (kg + v .fuel)
 
 abbrev pub afterEnd : View → View
 afterEnd v = openedView false (v .lines + 1) (v .floor) noHead
