@@ -4,7 +4,6 @@ use mathlib.Core.List.{List, [], _∷_, _++_, reverse}
 use mathlib.Core.Path.{_≡_, refl}
 use Prim.Native.Nat.{ℕ, zero, suc, _+_, _*_, _/_, _%_, _^_}
 use lib.ListN.{length, replicate}
-use lib.Dec.{leb→le}
 use Rattle.law.specs.Numbers.{perGram}
 use Rattle.law.specs.Words.{apart}
 use Rattle.rules.specs.declared.Head.{Head}
@@ -18,7 +17,7 @@ use Rattle.rules.specs.Tables.{coefficientsOf}
 use Rattle.rules.specs.Grams.{fuelTop, fuelBottom, grams}
 use Rattle.rules.specs.Walk.{Accepted, outcome}
 use Rattle.allowance.specs.Exact.{exactAutomatic, exactManual}
-use Rattle.allowance.specs.Allowance.{automaticAllowance, manualAllowance, AutomaticNear, ManualNear, FuelNear}
+use Rattle.allowance.specs.Allowance.{automaticAllowance, manualAllowance}
 use Rattle.allowance.specs.Opened.{allowances}
 
 -- ---- what a case computes: the method, the grams, the exact figure, the allowance, and both sides of the inequality
@@ -46,14 +45,14 @@ record Fuel (x : Line) (G top left right : ℕ) : Type 0 where
   bound : fuelBottom (coefficientsOf (x .head)) ≡ right
 
 -- ---- lines of one day: 300 MW, furnace 1, coal 4, mark 1, nitrogen oxides
-pair : ℕ → ℕ → Pair
+unfoldable pub pair : ℕ → ℕ → Pair
 pair concentration flow = record { concentration = concentration; flow = flow }
 
-survey : ℕ → ℕ → ℕ → Survey
+unfoldable pub survey : ℕ → ℕ → ℕ → Survey
 survey hour concentration flow = record { hour = hour; pair = pair concentration flow }
 
 -- the stack, automatic required or not, the masks of the hours that run and that are measured, the readings, enforcement surveys and batches
-line : ℕ → ℕ → ℕ → ℕ → List Pair → List Survey → List Batch → Line
+unfoldable pub line : ℕ → ℕ → ℕ → ℕ → List Pair → List Survey → List Batch → Line
 line stack required run measured pairs enforcement batches =
     record {
       head = record { stack = stack; pollutant = 2; required = required; furnace = 1; coal = 4; mw = 300; mark = 1; days = 1 };
@@ -64,32 +63,37 @@ line stack required run measured pairs enforcement batches =
     }
 
 -- document 01's example: 20, 30, 41 mg/m3 and 1000000, 1000000, 1000001 m3/h at hours 0, 1, 3, hour 2 missing
-example : Line
+unfoldable pub example : Line
 example =
     line 1 1 0b1111 0b1011 ((pair 0x41a00000 0x49742400 ∷ pair 0x41f00000 0x49742400 ∷ pair 0 0 ∷ pair 0x42240000 0x49742410 ∷ []) ++ replicate 20 (pair 0 0)) [] []
 
 -- every reading on the half that goes up, 20.125, 30.125, 40.875 mg/m3 and 1026796.5, 999999.5, 1000000.5 m3/h: both means end in a half, and so do the grams
-high : Line
+unfoldable pub high : Line
 high =
     line 2 1 0b1111 0b1011 ((pair 0x41a10000 0x497aaec8 ∷ pair 0x41f10000 0x497423f8 ∷ pair 0 0 ∷ pair 0x42238000 0x49742408 ∷ []) ++ replicate 20 (pair 0 0)) [] []
 
 -- every reading the last below a half: 23 hours under 4.995 mg/m3 and 501.5 m3/h, one under 0.025 and 11.5; 57.49999 g become 57
-low : Line
+unfoldable pub low : Line
 low = line 3 1 0xffffff 0xffffff (replicate 23 (pair 0x409fd70a 0x43fabfff) ++ (pair 0x3ccccccc 0x4137ffff ∷ [])) [] []
 
 -- a measured hour with 1 mg/m3 and 1 m3/h, replaced by a survey with 3 and 300; 0.9 g become 1
-overruled : Line
+unfoldable pub overruled : Line
 overruled =
     line 4 1 0b1 0b1 (pair 0x3f800000 0x3f800000 ∷ replicate 23 (pair 0 0)) (survey 0 0x40400000 0x43960000 ∷ []) []
 
 -- three running hours, all missing, two of them surveyed with 0.875 mg/m3 and 6249.5 m3/h, both on the half; 16.5 g become 17
-manually : Line
+unfoldable pub manually : Line
 manually =
     line 5 0 0b111 0 (replicate 24 (pair 0 0)) (survey 1 0x3f600000 0x45c34c00 ∷ survey 0 0x3f600000 0x45c34c00 ∷ []) []
 
 -- one running hour, missing, and 50 kg of coal at 8.01 kg/t; 400.5 g become 401
-coal : Line
+unfoldable pub coal : Line
 coal = line 6 1 0b1 0 (replicate 24 (pair 0 0)) [] (record { kg = 50; sulphur = 0; ash = 0 } ∷ [])
+
+-- the lines opened
+unfoldable pub cases : Type 0
+unfolding pair survey line example high low overruled manually coal
+cases = Unit
 
 -- ---- each case with both sides of its inequality
 record Computed : Type 0 where
@@ -107,7 +111,7 @@ record Computed : Type 0 where
   of-coal : Fuel coal 401 40_050 100 100
 
 computed : Computed
-unfolding pair survey line example high low overruled manually coal allowances
+unfolding cases allowances
 computed =
     record {
       of-example = record { by = refl; states = refl; figure = refl; allows = refl; off = refl; bound = refl };
@@ -117,19 +121,6 @@ computed =
       of-manually = record { by = refl; states = refl; figure = refl; allows = refl; off = refl; bound = refl };
       of-coal = record { by = refl; states = refl; figure = refl; off = refl; bound = refl };
     }
-
--- the inequality itself, of these lines by computation alone: a statement that allows less is false of one of them
-record Holds : Type 0 where
-  of-high : AutomaticNear high
-  of-low : AutomaticNear low
-  of-overruled : AutomaticNear overruled
-  of-manually : ManualNear manually
-  of-coal : FuelNear coal
-
-holds : Holds
-unfolding pair survey line example high low overruled manually coal allowances
-holds =
-    record { of-high = leb→le _ _ tt; of-low = leb→le _ _ tt; of-overruled = leb→le _ _ tt; of-manually = leb→le _ _ tt; of-coal = leb→le _ _ tt }
 
 -- ---- the account accepts all six: their records written out as one file
 -- n bytes, the lowest first
@@ -163,5 +154,5 @@ lineBytes x =
     headBytes (x .head) ++ bytesOf dayBytes (x .days) ++ bytesOf enforcementBytes (reverse (x .enforcement)) ++ bytesOf batchBytes (x .batches) ++ little 2 2 ++ little 2 6
 
 taken-in : outcome (bytesOf lineBytes (example ∷ high ∷ low ∷ overruled ∷ manually ∷ coal ∷ [])) ≡ Accepted (coal ∷ manually ∷ overruled ∷ low ∷ high ∷ example ∷ [])
-unfolding pair survey line example high low overruled manually coal allowances little bytesOf headBytes pairBytes dayBytes enforcementBytes batchBytes lineBytes
+unfolding cases allowances little bytesOf headBytes pairBytes dayBytes enforcementBytes batchBytes lineBytes
 taken-in = refl

@@ -6,4 +6,4 @@ pub mod Near
 pub mod Bounds
 pub mod Order
 pub mod Cases
-pub mod Rows
+pub mod Refuted

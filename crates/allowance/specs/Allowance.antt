@@ -1,9 +1,9 @@
 -- "G the grams, c and l the rounded or filled values": how far the grams may lie from the exact figure, stated over demand 2's own definitions.
-use Prim.Native.Nat.{ℕ, _+_, _*_, _^_, _≤_, _<_}
+use Prim.Native.Nat.{ℕ, _+_, _*_, _^_, _≤_}
 use mathlib.Core.List.{List, [], List·Memᴰ}
 use mathlib.Core.Path.{_≡_}
-use lib.ListN.{length, take, drop, getD}
-use Rattle.law.specs.Numbers.{rowCells, perGram}
+use lib.ListN.{length}
+use Rattle.law.specs.Numbers.{perGram}
 use Rattle.law.specs.Words.{sumOf, apart}
 use Rattle.rules.specs.Slots.{entries}
 use Rattle.rules.specs.Hours.{running}
@@ -12,10 +12,7 @@ use Rattle.rules.specs.Method.{method}
 use Rattle.rules.specs.Fill.{Values, filled}
 use Rattle.rules.specs.Tables.{coefficientsOf}
 use Rattle.rules.specs.Grams.{slots, surveyValues, fuelTop, fuelBottom, grams}
-use Rattle.rules.specs.declared.Answer.{Answer}
 use Rattle.rules.specs.Walk.{Accepted, outcome}
-use Rattle.rules.specs.Account.{Promise}
-use Rattle.answers.specs.Answers.{IsRow}
 use Rattle.allowance.specs.Exact.{exactAutomatic, exactManual}
 
 -- "2(c + l) + 1 for each measured hour"
@@ -63,15 +60,3 @@ pub record Near (x : Line) : Type 0 where
 -- demand 3: every line of every accepted file
 abbrev pub EveryLineNear : Type 0
 EveryLineNear = (file : List ℕ) (lines : List Line) → outcome file ≡ Accepted lines → (x : Line) → List·Memᴰ x lines → Near x
-
--- the i-th row that a call leaves is that of a line whose grams are within its allowance
-pub record RowNear (lines : List Line) (rows : List ℕ) (i : ℕ) : Type 0 where
-  pub row : IsRow lines (take rowCells (drop (rowCells * i) rows))
-  pub grams : getD rows (rowCells * i + 3) 0 ≡ grams (row .line)
-  pub near : Near (row .line)
-
--- demand 3 as its reader has it: for every call of `account` that answers 0, every row that it leaves
-abbrev pub EveryRowNear : Type 0
-EveryRowNear =
-    (file rows conc flow : List ℕ) (answer : Answer) (rows' conc' flow' : List ℕ) → Promise file rows conc flow answer rows' conc' flow' → answer .number ≡ 0
-    → (lines : List Line) → outcome file ≡ Accepted lines → (i : ℕ) → i < answer .rows → RowNear lines rows' i

@@ -11,7 +11,8 @@ use Rattle.rules.specs.Lines.{Line, hours, surveyed}
 use Rattle.rules.specs.Fill.{Values, zeroes, fillBoth}
 use Rattle.rules.specs.Grams.{amount}
 
--- "exact binary readings": c in hundredths of mg/m3 and l in m3/h, both in units of 2^-149
+-- "exact binary readings": c in hundredths of mg/m3 and l in m3/h, both in units of 2^-149, in which nothing of a reading is cut off (`readings` of the front
+-- page, `demands`)
 unfoldable pub exactOf : Pair → Values
 exactOf p = record { c = 100 * exact (reading (p .concentration)); l = exact (reading (p .flow)) }
 

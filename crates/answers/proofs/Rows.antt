@@ -1,14 +1,14 @@
 -- The rows of lines, seven cells each, those of the oldest line first. Assumes nothing.
-use mathlib.Core.Path.{_≡_, refl, ap, _∙_}
+use mathlib.Core.Path.{_≡_, refl, sym, ap, _∙_}
 use mathlib.Core.List.{List, [], _∷_, _++_}
-use Prim.Native.Nat.{ℕ, _-_, _*_, _<_}
+use Prim.Native.Nat.{ℕ, _+_, _-_, _*_, _<_}
 use native.Mathlib.Omega.{arith}
 use lib.ListN.{length, take, drop, getD}
-use Rattle.law.proofs.Newest.{mem-at, written, written-long, block-behind, block-at}
+use lib.Seq.{getD-take, getD-drop}
+use Rattle.law.proofs.Newest.{written, written-long, block-behind, block-at}
 use Rattle.rules.specs.Lines.{Line}
+use Rattle.rules.specs.Grams.{grams}
 use Rattle.rules.specs.Row.{rowOf, rowsOf}
-use Rattle.rules.specs.Walk.{begun, noHead}
-use Rattle.answers.specs.Answers.{IsRow}
 
 row-long : (x : Line) → length (rowOf x) ≡ 7
 unfolding rowOf
@@ -30,8 +30,7 @@ row-behind xs x rest = ap (λ (cells : List ℕ). take 7 (drop (7 * length xs) (
 pub row-of : (d : Line) (lines : List Line) (rest : List ℕ) (i : ℕ) → i < length lines → take 7 (drop (7 * i) (rowsOf lines ++ rest)) ≡ rowOf (getD lines (length lines - 1 - i) d)
 row-of d lines rest i l = ap (λ (cells : List ℕ). take 7 (drop (7 * i) (cells ++ rest))) (rows-written lines) ∙ block-at rowOf 7 row-long d lines rest i l
 
-pub row-at : (lines : List Line) (rest : List ℕ) (i : ℕ) → i < length lines → IsRow lines (take 7 (drop (7 * i) (rowsOf lines ++ rest)))
-row-at lines rest i l =
-    let d = begun noHead in
-    let k : length lines - 1 - i < length lines = omega arith in
-    record { line = getD lines (length lines - 1 - i) d; among = mem-at lines (length lines - 1 - i) d k; stated = row-of d lines rest i l }
+-- the fourth cell of a row is the line's grams
+pub fourth : (rows : List ℕ) (i : ℕ) (x : Line) → take 7 (drop (7 * i) rows) ≡ rowOf x → getD rows (7 * i + 3) 0 ≡ grams x
+unfolding rowOf
+fourth rows i x e = sym (getD-drop (7 * i) rows 3 0) ∙ sym (getD-take 7 (drop (7 * i) rows) 3 0 (omega arith)) ∙ ap (λ (row : List ℕ). getD row 3 0) e

@@ -1,13 +1,13 @@
 -- What an answer of the account call says of the file it was given.
 use Prim.Native.Nat.{ℕ, _*_, _≤_}
-use mathlib.Core.List.{List, _++_, List·Memᴰ}
+use mathlib.Core.List.{List, _++_}
 use mathlib.Core.Path.{_≡_}
 use lib.ListN.{length, drop}
 use Rattle.law.specs.Numbers.{mostLines, rowCells}
 use Rattle.rules.specs.declared.Answer.{Answer}
 use Rattle.rules.specs.declared.Fault.{Fault}
 use Rattle.rules.specs.Lines.{Line}
-use Rattle.rules.specs.Row.{rowOf, rowsOf}
+use Rattle.rules.specs.Row.{rowsOf}
 use Rattle.rules.specs.Walk.{Refused, Accepted, outcome}
 use Rattle.rules.specs.Account.{refusal, acceptance}
 
@@ -24,9 +24,3 @@ pub record Denied (file : List ℕ) (answer : Answer) : Type 0 where
   pub fault : Fault
   pub refused : outcome file ≡ Refused fault
   pub answers : answer ≡ refusal fault
-
--- seven cells are the row of one of the lines
-pub record IsRow (lines : List Line) (row : List ℕ) : Type 0 where
-  pub line : Line
-  pub among : List·Memᴰ line lines
-  pub stated : row ≡ rowOf line

@@ -27,7 +27,10 @@ use Rattle.panel.proofs.Runs.{run-exact, run-fits, run-good, run-value, run-acc
 use Rattle.survey.specs.Governing.{isSurvey, part, surveyOr, governing}
 use Rattle.survey.proofs.Only.{governing-survey}
 use Rattle.figures.specs.Example.{example}
-use Rattle.demands.specs.Demands.{Call, Result, Lent, Kept, Version, Keeps, gramsIn, Taken, NoneOfFour, EveryRowNear, RefusesAll, PanelExact, Governs, Demands}
+use Rattle.quarter.proofs.account.Met.{met as account-met}
+use Rattle.panel.proofs.Panel.hour.Met.{met as hour-met}
+use Rattle.survey.proofs.governing_survey.Met.{met as governing-met}
+use Rattle.demands.specs.Demands.{Call, Result, Lent, Kept, Version, Keeps, gramsIn, Taken, NoneOfFour, EveryRowNear, RefusesAll, PanelExact, Governs, Demands, Code}
 use Rattle.demands.proofs.Falsity.{false-true, differ}
 use Rattle.demands.proofs.Files.{second, two, callOf, lent-all, Given, given-all}
 use Rattle.demands.proofs.Rows.{row-near}
@@ -162,3 +165,7 @@ demands =
       panel = panel-exact;
       survey = governs;
     }
+
+-- ---- the code
+pub code : {M : Type 1} → Code M
+code = record { account = account-met; hour = hour-met; survey = governing-met }

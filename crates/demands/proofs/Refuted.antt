@@ -1,4 +1,5 @@
--- Three of the edits in must-fail/ are not only refused: what they say is false (half_the_allowance, next_line, rows_unwritten). Assumes nothing.
+-- What the edits in must-fail/ say is not only refused but false, each shown here by a case: half_the_allowance, next_line, next_head, rows_unwritten,
+-- alone_does. Assumes nothing.
 use mathlib.Core.Path.{_≡_, refl, ap}
 use mathlib.Core.Bool.{false}
 use mathlib.Core.List.{List, [], _∷_, _++_, List·Memᴰ, List·Memᴰ·head}
@@ -9,11 +10,13 @@ use lib.Dec.{leb}
 use borrow.Author.Tests.{leb-false}
 use Rattle.law.specs.Numbers.{perGram}
 use Rattle.law.specs.Words.{apart}
-use Rattle.rules.specs.{Lines.Line, Method.method, Grams.grams, Row.rowOf, Walk.Outcome, Walk.Refused, Walk.Accepted, Walk.begun, Walk.noHead, Walk.outcome, Opened.rules}
-use Rattle.allowance.specs.Exact.{exactOf, twice, twiceMean, twiceBoth, exactFill, exactHourly, exactAutomatic}
-use Rattle.allowance.specs.Allowance.{ofMeasured, ofFilled, ofFill, automaticAllowance}
+use Rattle.rules.specs.{declared.Head.Head, Lines.Line, Method.method, Grams.grams, Row.rowOf, Walk.Outcome, Walk.Refused, Walk.Accepted, Walk.begun, Walk.noHead, Walk.outcome, Opened.rules}
+use Rattle.answers.specs.Heads.{headsWith, headsIn, headsOf}
+use Rattle.allowance.specs.Exact.{exactAutomatic}
+use Rattle.allowance.specs.Allowance.{automaticAllowance}
+use Rattle.allowance.specs.Opened.{allowances}
 use Rattle.figures.specs.Example.{example}
-use Rattle.demands.specs.Demands.{Version, Keeps, Taken, Call, Lent}
+use Rattle.demands.specs.Demands.{Version, Keeps, Taken, Call, Lent, RefusesAll, EveryRowNear}
 use Rattle.demands.proofs.Falsity.{differ}
 use Rattle.demands.proofs.Files.{second, two, callOf, lent-all, given-all}
 use Rattle.demands.proofs.Demands.{resultOf, kept, demands}
@@ -42,7 +45,7 @@ record High : Type 0 where
   over : leb (4 * apart (perGram * grams highLine * 2 ^ 300) (exactAutomatic highLine)) ((perGram + automaticAllowance highLine / 2) * 2 ^ 300) ≡ false
 
 high-is : High
-unfolding high highLine linesIn example rules exactOf twice twiceMean twiceBoth exactFill exactHourly exactAutomatic ofMeasured ofFilled ofFill automaticAllowance
+unfolding high highLine linesIn example allowances
 high-is = record { accepted = refl; by = refl; over = refl }
 
 below-not : (a b : ℕ) → b < a → a ≤ b → ⊥
@@ -60,11 +63,13 @@ twoLines = linesIn (outcome two)
 record Two : Type 0 where
   accepted : outcome two ≡ Accepted twoLines
   some : length twoLines ≡ 2
+  nextHead : getD (headsOf two) (0 + 1) noHead .stack ≡ 2
+  firstHead : getD twoLines (length twoLines - 1 - 0) (begun noHead) .head .stack ≡ 1
   next : rowOf (getD twoLines (length twoLines - 1 - (0 + 1)) (begun noHead)) ≡ 2 ∷ 2 ∷ 1 ∷ 136_500 ∷ 4 ∷ 1 ∷ 3 ∷ []
 
 two-is : Two
-unfolding two twoLines second linesIn example rules
-two-is = record { accepted = refl; some = refl; next = refl }
+unfolding two twoLines second linesIn example rules headsIn headsWith
+two-is = record { accepted = refl; some = refl; nextHead = refl; firstHead = refl; next = refl }
 
 not-next : ((v : Version) → Keeps v → (c : Call) → Lent c → v c .answer .number ≡ 0 → (lines : List Line) → outcome (c .file) ≡ Accepted lines → (i : ℕ) → i < length lines
     → take 7 (drop (7 * i) (v c .rows)) ≡ rowOf (getD lines (length lines - 1 - (i + 1)) (begun noHead))) → ⊥
@@ -74,6 +79,17 @@ not-next h =
     let a : getD (take 7 (drop (7 * 0) (resultOf (callOf two) .rows))) 0 0 ≡ 1 = ap (λ (r : List ℕ). getD (take 7 (drop (7 * 0) r)) 0 0) (given-all .rowsTwo) in
     differ _ _ _ _ a (ap (λ (r : List ℕ). getD r 0 0) (two-is .next)) (omega arith) (ap (λ (r : List ℕ). getD r 0 0) e)
 
+-- the i-th row as that of the line that the next head opens: the second head of `two` is that of stack 2
+not-head : ((file : List ℕ) (lines : List Line) → outcome file ≡ Accepted lines → (i : ℕ) → i < length lines
+    → (other : Head) → getD (headsOf file) (i + 1) other ≡ getD lines (length lines - 1 - i) (begun noHead) .head) → ⊥
+not-head h =
+    let e = h two twoLines (two-is .accepted) 0 (omega (arith, two-is .some)) noHead in
+    differ _ _ _ _ (two-is .nextHead) (two-is .firstHead) (omega arith) (ap (λ (x : Head). x .stack) e)
+
 -- nothing written
 not-unwritten : ((v : Version) → Keeps v → (a : Taken v 1) → v (a .call) .rows ≡ a .call .rows) → ⊥
 not-unwritten h = let w = demands .two resultOf (λ c l. kept c) .writes in w .1 (h resultOf (λ c l. kept c) (w .0))
+
+-- demand 3 alone claimed to shut out what refuses everything
+not-alone : ((v : Version) → RefusesAll v → EveryRowNear v → ⊥) → ⊥
+not-alone h = h (demands .alone .0 .0) (demands .alone .0 .1) (demands .alone .1 (demands .alone .0 .0) (demands .alone .0 .1) .0)

@@ -8,10 +8,9 @@ use Rattle.law.proofs.Newest.{mem-at, getD-any}
 use Rattle.rules.specs.Lines.{Line}
 use Rattle.rules.specs.Row.{rowsOf}
 use Rattle.rules.specs.Walk.{begun, noHead, Accepted, outcome}
-use Rattle.answers.proofs.Rows.{row-of}
+use Rattle.answers.proofs.Rows.{row-of, fourth}
 use Rattle.answers.proofs.Heads.{head-at}
 use Rattle.allowance.proofs.Near.{every-line-near}
-use Rattle.allowance.proofs.Rows.{fourth}
 use Rattle.demands.specs.Demands.{RowNear}
 
 pub row-near : (file : List ℕ) (lines : List Line) → outcome file ≡ Accepted lines → (rows rest : List ℕ) → rows ≡ rowsOf lines ++ rest

@@ -1,38 +1,34 @@
--- What is proved of this program, on one page: statements only. `demands` of proofs/Demands.antt proves the record at the end.
+-- What is proved of this program, on one page: statements only. `demands` and `code` of proofs/Demands.antt prove the two records at the end.
 use Prim.Native.Nat.{ℕ, _+_, _-_, _*_, _/_, _^_, _≤_, _<_}
-use mathlib.Core.Bool.{Bool, true, false}
-use mathlib.Core.List.{List}
-use mathlib.Core.Logic.{_↔_}
-use mathlib.Core.Path.{_≡_}
-use lib.ListN.{length, take, drop, getD}
-use lib.Ieee.Exact.{HasValue}
+use mathlib.Core.{Bool.Bool, Bool.true, Bool.false, List.List, Logic._↔_, Path._≡_}
+use lib.{ListN.length, ListN.take, ListN.drop, ListN.getD, Ieee.Exact.HasValue}
 use denote.Ref.{RefT, ptr, now}
 use Rattle.law.specs.Numbers.{mostHours, rowCells}
 use Rattle.reading.specs.{declared.Hour.Hour, Reading.reading, Reading.allowed, Reading.exact}
 use Rattle.rules.specs.{declared.Head.Head, declared.Answer.Answer, Lines.Line, Grams.grams, Row.rowOf, Walk.Accepted, Walk.outcome, Account.Promise}
 use Rattle.answers.specs.Heads.{headsOf}
 use Rattle.allowance.specs.Allowance.{Near}
-use Rattle.panel.specs.Lawful.{asTotal}
-use Rattle.panel.specs.{Panel.emptyPanel, Runs.after, Runs.products, Runs.missingHours, Runs.NoneRefused, Runs.NoneBad}
+use Rattle.panel.specs.{Lawful.asTotal, Panel.emptyPanel, Runs.after, Runs.products, Runs.missingHours, Runs.NoneRefused, Runs.NoneBad}
 use Rattle.survey.specs.Governing.{isSurvey, part, here, governing}
+use Rattle.quarter.proofs.account.Statement.{statement as accountMeets}
+use Rattle.panel.proofs.Panel.hour.Statement.{statement as hourMeets}
+use Rattle.survey.proofs.governing_survey.Statement.{statement as governingMeets}
 
--- what an account call is lent: a file, cells for rows, and a work table each for concentration and flow
+-- what an account call is lent: a file, cells for rows, and a work table each for concentration and flow; what it answers, and what the slices hold then
 abbrev pub Call : Type 0
 Call = record { file : List ℕ; rows : List ℕ; concentrations : List ℕ; flows : List ℕ }
 
--- what it answers, and what the three slices hold afterwards
 abbrev pub Result : Type 0
 Result = record { answer : Answer; rows : List ℕ; concentrations : List ℕ; flows : List ℕ }
 
--- a slice that a machine can hold, of numbers of so many bytes
+-- a slice that a machine can hold, of numbers of so many bytes; a call that can be made, with u8, u64, u32 and u32 as the signature of `account` has them
 abbrev pub Slice : ℕ → List ℕ → Type 0
 Slice bytes s = ((i : ℕ) → getD s i 0 < 256 ^ bytes) × (length s * bytes < 2 ^ 63)
 
--- a call that can be made: u8, u64, u32 and u32, as the signature of `account` has them
 abbrev pub Lent : Call → Type 0
 Lent c = Slice 1 (c .file) × Slice 8 (c .rows) × Slice 4 (c .concentrations) × Slice 4 (c .flows)
 
--- the promise of the account call, which `account` of crates/quarter is proved to keep: the definition to read is `Promise`
+-- the promise of the account call: the definition to read is `Promise`
 abbrev pub Kept : Call → Result → Type 0
 Kept c r = Promise (c .file) (c .rows) (c .concentrations) (c .flows) (r .answer) (r .rows) (r .concentrations) (r .flows)
 
@@ -53,15 +49,12 @@ pub record Taken (v : Version) (rows : ℕ) : Type 0 where
 abbrev pub gramsIn : Result → ℕ → ℕ
 gramsIn r i = getD (r .rows) (rowCells * i + 3) 0
 
--- the four versions that have to be shut out: what a version does that is none of them
+-- the four versions that have to be shut out, by what each does not do: accept a file ("refuses everything"); give two files other grams ("the same grams for
+-- all files"); change rows and both work tables ("writes nothing"); give a second line other grams ("the first line and copies it for the rest")
 pub record NoneOfFour (v : Version) : Type 0 where
-  -- it does not refuse everything
   pub accepts : Taken v 1
-  -- it does not give the same grams for all files
   pub grams : (a b : Taken v 1) × (gramsIn (v (a .call)) 0 ≡ gramsIn (v (b .call)) 0 → ⊥)
-  -- it does not write nothing: rows and both work tables change
   pub writes : (a : Taken v 1) × (v (a .call) .rows ≡ a .call .rows → ⊥) × (v (a .call) .concentrations ≡ a .call .concentrations → ⊥) × (v (a .call) .flows ≡ a .call .flows → ⊥)
-  -- it does not account the first line and copy it for the rest
   pub lines : (a : Taken v 2) × (gramsIn (v (a .call)) 1 ≡ gramsIn (v (a .call)) 0 → ⊥)
 
 -- row i is the row of the file's i-th line, which its i-th head opens (of `lines` the newest stands first), and the grams are near the exact figure
@@ -119,3 +112,9 @@ pub record Demands : Type 0 where
   pub panel : (hs : List Hour) → PanelExact hs
   -- THE GOVERNING SURVEY, of any two slices and any hour
   pub survey : (e p : RefT (List ℕ)) (hour : ℕ) → Governs e p hour
+
+-- THE CODE: each call itself, as it is compiled, meets the contract that stands at it in src/ (`Promise`, `panelStep`, `governing`), in every model of the machine
+pub record Code (M : Type 1) : Type 2 where
+  pub account : accountMeets M
+  pub hour : hourMeets M
+  pub survey : governingMeets M
