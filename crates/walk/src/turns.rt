@@ -127,11 +127,11 @@ fn step(
 fn found(p: Progress, end: usize) -> Tally
     ensures { λ r. ⌜ r ≡ foundOf p end ⌝ }
 {
-    let f = p.fault;
+    let fault = p.fault;
     let v = p.view;
-    if f.number != 0 {
+    if fault.number != 0 {
         return Tally {
-            fault: f,
+            fault,
             lines: v.lines,
         };
     }
