@@ -1,7 +1,7 @@
 -- The figures: no product is too long, and what the code keeps of the batches gives the grams of the rules. Assumes nothing.
 use mathlib.Core.Bool.{true, _&&_}
-use mathlib.Core.Path.{_≡_, refl, sym, ap, subst}
-use mathlib.Core.List.{List}
+use mathlib.Core.Path.{_≡_, refl, sym, ap, subst, _∙_}
+use mathlib.Core.List.{List, [], _∷_}
 use Prim.Native.Nat.{ℕ, _+_, _-_, _*_, _≤_}
 use native.Mathlib.Nat.{mul-le-mul}
 use native.Mathlib.Omega.{arith}
@@ -16,14 +16,18 @@ use Rattle.rules.specs.declared.Batch.{Batch}
 use Rattle.rules.specs.declared.Coefficients.{Coefficients}
 use Rattle.rules.specs.declared.Coefficients.the-variants.{Balance, Oxides, Dust, NoEntry}
 use Rattle.rules.proofs.Grams.{bottom-some}
+use Rattle.rules.proofs.OnPaper.{coefficients-only}
 use Rattle.rules.specs.Tables.{coefficientsOf}
+use Rattle.rules.specs.OnPaper.{OnPaper, saysNo, says, coefficientsOnPaper}
 use Rattle.rules.specs.Lines.{fuel}
 use Rattle.rules.specs.Grams.{sulphurOf, fuelTop, fuelBottom, fuelGrams}
-use Rattle.fuel.specs.declared.FuelFigure.{FuelFigure}
-use Rattle.fuel.specs.declared.FuelFigure.the-variants.{Grams, WithoutEntry}
 use Rattle.fuel.specs.Fuel.{ashOf, topOf, foundOf, figureOf, Ranged, fuelFigure, InRange}
 use Rattle.tables.proofs.Bounds.{Small, coefficients-small}
 use Rattle.fuel.proofs.Batches.{top-is}
+
+-- an entry as it is taken apart is the tables'
+pub is-entry : (h : Head) (r entry : Coefficients) → coefficientsOnPaper r ≡ coefficientsOnPaper (coefficientsOf h) → r ≡ entry → coefficientsOf h ≡ entry
+is-entry h r entry p e = sym (coefficients-only r (coefficientsOf h) p) ∙ e
 
 -- every entry that the tables have
 pub entry-small : (h : Head) (entry : Coefficients) → coefficientsOf h ≡ entry → Small entry
@@ -60,20 +64,20 @@ in-range-tests kg sulphur ash k s a e l =
     (omega (arith, leb-true kg k (inner .0)), omega (arith, leb-true sulphur s (inner .1)), omega (arith, leb-true ash a (outer .1)))
 
 -- ---- the figure of an entry that the tables have
-pub by-entry : (h : Head) (kg sulphur ash : ℕ) (entry : Coefficients) (r : FuelFigure) → coefficientsOf h ≡ entry → r ≡ figureOf entry kg sulphur ash → r ≡ figureOf (coefficientsOf h) kg sulphur ash
+pub by-entry : (h : Head) (kg sulphur ash : ℕ) (entry : Coefficients) (r : OnPaper) → coefficientsOf h ≡ entry → r ≡ figureOf entry kg sulphur ash → r ≡ figureOf (coefficientsOf h) kg sulphur ash
 by-entry h kg sulphur ash entry r e f = rw e f
 
 -- ---- within the document's range the figure is that of the entry
-pub in-range : (h : Head) (kg sulphur ash : ℕ) (entry : Coefficients) (r : FuelFigure) → Ranged kg sulphur ash → coefficientsOf h ≡ entry → r ≡ figureOf entry kg sulphur ash → r ≡ fuelFigure h kg sulphur ash
+pub in-range : (h : Head) (kg sulphur ash : ℕ) (entry : Coefficients) (r : OnPaper) → Ranged kg sulphur ash → coefficientsOf h ≡ entry → r ≡ figureOf entry kg sulphur ash → r ≡ fuelFigure h kg sulphur ash
 unfolding fuelFigure needAll
 in-range h kg sulphur ash entry r l e f = need-le _ _ _ _ _ (l .0) (need-le _ _ _ _ _ (l .1) (need-le _ _ _ _ _ (l .2) (by-entry h kg sulphur ash entry r e f)))
 
 -- ---- the figure of a line's batches is the grams of the rules
-found-is : (entry : Coefficients) (batches : List Batch) → foundOf entry (fuel batches) (sulphurOf batches) (ashOf batches) ≡ Grams (fuelGrams entry batches)
+found-is : (entry : Coefficients) (batches : List Batch) → foundOf entry (fuel batches) (sulphurOf batches) (ashOf batches) ≡ says (fuelGrams entry batches ∷ [])
 unfolding fuelGrams
-found-is entry batches = ap (λ (t : ℕ). Grams (halvesUp t (fuelBottom entry))) (top-is entry batches)
+found-is entry batches = ap (λ (t : ℕ). says (halvesUp t (fuelBottom entry) ∷ [])) (top-is entry batches)
 
-pub figure-is : (entry : Coefficients) (batches : List Batch) → (entry ≡ NoEntry → ⊥) → figureOf entry (fuel batches) (sulphurOf batches) (ashOf batches) ≡ Grams (fuelGrams entry batches)
+pub figure-is : (entry : Coefficients) (batches : List Batch) → (entry ≡ NoEntry → ⊥) → figureOf entry (fuel batches) (sulphurOf batches) (ashOf batches) ≡ says (fuelGrams entry batches ∷ [])
 unfolding figureOf
 figure-is (Balance q k) batches n = found-is (Balance q k) batches
 figure-is (Oxides x) batches n = found-is (Oxides x) batches
@@ -85,10 +89,10 @@ ranged : {batches : List Batch} → InRange batches → Ranged (fuel batches) (s
 ranged i = (i .kg, i .sulphur, omega (arith, i .kg, i .ash))
 
 module _ (h : Head) (batches : List Batch) (i : InRange batches) where
-  pub line-figure : (coefficientsOf h ≡ NoEntry → ⊥) → fuelFigure h (fuel batches) (sulphurOf batches) (ashOf batches) ≡ Grams (fuelGrams (coefficientsOf h) batches)
+  pub line-figure : (coefficientsOf h ≡ NoEntry → ⊥) → fuelFigure h (fuel batches) (sulphurOf batches) (ashOf batches) ≡ says (fuelGrams (coefficientsOf h) batches ∷ [])
   line-figure n = sym (in-range h _ _ _ (coefficientsOf h) _ (ranged i) refl (sym (figure-is (coefficientsOf h) batches n)))
 
-  pub line-wanting : coefficientsOf h ≡ NoEntry → fuelFigure h (fuel batches) (sulphurOf batches) (ashOf batches) ≡ WithoutEntry
+  pub line-wanting : coefficientsOf h ≡ NoEntry → fuelFigure h (fuel batches) (sulphurOf batches) (ashOf batches) ≡ saysNo 7
   unfolding figureOf
   line-wanting e = sym (in-range h _ _ _ NoEntry _ (ranged i) e refl)
 

@@ -9,6 +9,7 @@ use Rattle.rules.specs.declared.Batch.{Batch}
 use Rattle.rules.specs.declared.Coefficients.{Coefficients}
 use Rattle.rules.specs.declared.Coefficients.the-variants.{Balance, Oxides, Dust, NoEntry}
 use Rattle.rules.specs.Tables.{coefficientsOf}
+use Rattle.rules.specs.OnPaper.{OnPaper, saysNo, says, coefficientsOnPaper}
 use Rattle.rules.specs.Lines.{fuel}
 use Rattle.rules.specs.Grams.{sulphurOf, fuelBottom}
 use Rattle.fuel.specs.declared.FuelFigure.{FuelFigure}
@@ -32,28 +33,28 @@ topOf (Dust a b) kg sulphur ash = a * ash + 100 * b * kg
 topOf NoEntry kg sulphur ash = 0
 
 -- the grams of an entry: one rounding
-abbrev pub foundOf : Coefficients → ℕ → ℕ → ℕ → FuelFigure
-foundOf entry kg sulphur ash = Grams (halvesUp (topOf entry kg sulphur ash) (fuelBottom entry))
+abbrev pub foundOf : Coefficients → ℕ → ℕ → ℕ → OnPaper
+foundOf entry kg sulphur ash = says (halvesUp (topOf entry kg sulphur ash) (fuelBottom entry) ∷ [])
 
--- an entry, or none
-unfoldable pub figureOf : Coefficients → ℕ → ℕ → ℕ → FuelFigure
+-- the figure of an entry; 7: "method 3 or 4 with no table entry"
+unfoldable pub figureOf : Coefficients → ℕ → ℕ → ℕ → OnPaper
 figureOf (Balance q k) kg sulphur ash = foundOf (Balance q k) kg sulphur ash
 figureOf (Oxides coefficient) kg sulphur ash = foundOf (Oxides coefficient) kg sulphur ash
 figureOf (Dust a b) kg sulphur ash = foundOf (Dust a b) kg sulphur ash
-figureOf NoEntry kg sulphur ash = WithoutEntry
+figureOf NoEntry kg sulphur ash = saysNo 7
 
 -- the document's range: "a line's fuel at most 10,000,000,000 kg", "sulphur at most 2,000, ash at most 10,000"
 abbrev pub Ranged : ℕ → ℕ → ℕ → Type 0
 Ranged kg sulphur ash = (kg ≤ mostFuel) × (sulphur ≤ mostSulphur) × (ash ≤ mostFuel * mostAsh)
 
--- within it the figure, else none
-unfoldable pub fuelFigure : Head → ℕ → ℕ → ℕ → FuelFigure
+-- within it the figure; 3: "field .. or fuel sum out of range"
+unfoldable pub fuelFigure : Head → ℕ → ℕ → ℕ → OnPaper
 fuelFigure h kg sulphur ash =
-    needAll OutOfRange (leb kg mostFuel ∷ leb sulphur mostSulphur ∷ leb ash (mostFuel * mostAsh) ∷ [])
+    needAll (saysNo 3) (leb kg mostFuel ∷ leb sulphur mostSulphur ∷ leb ash (mostFuel * mostAsh) ∷ [])
     (figureOf (coefficientsOf h) kg sulphur ash)
 
--- the paper's number for each case: 7 "no table entry", 3 "field .. or fuel sum out of range"
-unfoldable pub numberOf : FuelFigure → ℕ
-numberOf (Grams g) = 0
-numberOf WithoutEntry = 7
-numberOf OutOfRange = 3
+-- what an answer says on paper: the grams; no entry, as the tables say it; 3 out of range
+unfoldable pub fuelOnPaper : FuelFigure → OnPaper
+fuelOnPaper (Grams g) = says (g ∷ [])
+fuelOnPaper WithoutEntry = coefficientsOnPaper NoEntry
+fuelOnPaper OutOfRange = saysNo 3

@@ -3,7 +3,7 @@ ghost use mathlib.Core.Path.{_≡_};
 ghost use Prim.Native.Nat.{_<_, _≤_};
 ghost use Rattle.law.specs.Words.{halvesUp};
 ghost use Rattle.rules.specs.Tables.{coefficientsOf};
-ghost use Rattle.fuel.specs.Fuel.{figureOf, Ranged, fuelFigure};
+ghost use Rattle.fuel.specs.Fuel.{figureOf, Ranged, fuelFigure, fuelOnPaper};
 use rules::Coefficients;
 use rules::Head;
 
@@ -25,7 +25,7 @@ fn halves_up(n: u64, d: u64) -> u64
 // The figure of amounts within the document's range, by the entry that the tables have: one rounding.
 fn figure(h: Head, kg: u64, sulphur: u16, ash: u64) -> FuelFigure
     requires { ⌜ Ranged kg sulphur ash ⌝ }
-    ensures { λ r. ⌜ r ≡ figureOf (coefficientsOf h) kg sulphur ash ⌝ }
+    ensures { λ r. ⌜ fuelOnPaper r ≡ figureOf (coefficientsOf h) kg sulphur ash ⌝ }
 {
     match tables::coefficients(h) {
         Coefficients::Balance(q, k) => {
@@ -46,7 +46,7 @@ fn figure(h: Head, kg: u64, sulphur: u16, ash: u64) -> FuelFigure
 
 // The grams of a line from its kg, its largest sulphur and its sum of kg x ash.
 pub fn fuel_figure(h: Head, kg: u64, sulphur: u16, ash: u64) -> FuelFigure
-    ensures { λ r. ⌜ r ≡ fuelFigure h kg sulphur ash ⌝ }
+    ensures { λ r. ⌜ fuelOnPaper r ≡ fuelFigure h kg sulphur ash ⌝ }
 {
     let fits = (kg <= 10_000_000_000) & (sulphur <= 2_000) & (ash <= 100_000_000_000_000);
     if fits {

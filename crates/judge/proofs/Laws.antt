@@ -8,6 +8,7 @@ use lib.ListN.{getD}
 use lib.Dec.{ltb}
 use borrow.Author.Tests.{leb-true, ltb-true, eqb-true, not-true}
 use Rattle.law.specs.Numbers.{hoursOfDay, mostDays, mostLines, mostSurveys, mostBatches, mostSulphur, mostAsh, mostFuel}
+use Rattle.law.specs.Words.{need}
 use Rattle.law.proofs.Tests.{pick-not-le}
 use Rattle.rules.specs.declared.Head.{Head}
 use Rattle.rules.specs.declared.Masks.{Masks}
@@ -18,31 +19,25 @@ use Rattle.rules.specs.declared.Record.the-variants.{Bad, OfHead, OfDay, OfEnfo
 use Rattle.rules.specs.declared.Fault.{Fault}
 use Rattle.rules.specs.declared.View.{View}
 use Rattle.rules.specs.declared.Coefficients.{Coefficients}
-use Rattle.rules.specs.declared.Coefficients.the-variants.{Balance, Oxides, Dust, NoEntry}
+use Rattle.rules.specs.declared.Coefficients.the-variants.{NoEntry}
 use Rattle.rules.specs.Records.{Day, dayOf, recordIn}
 use Rattle.rules.specs.Tables.{coefficientsOf}
-use Rattle.rules.specs.Judge.{refuse, fine, first, placeHead, rangeHead, placeDay, rangeMasks, judgePair, judgeBlank, judgeHour, judgeHours, surveysLeft, surveyTests, placeEnforcement, placePlant, judgeStopped, judgeSurvey, placeBatch, rangeBatch, judgeEntry, placeEnd, lineMethod, judgeFuel, judgeRecord, judgeReadings, judge}
-use Rattle.rules.proofs.Faults.{Stands, stands, stands-fine, stands-seek, Within, withins, within-fine, within-first, within-seek, first-goes, first-stops, first-refused, passed, each-passed, both-passed}
+use Rattle.rules.specs.OnPaper.{recordOnPaper, coefficientsOnPaper}
+use Rattle.rules.specs.Judge.{refuse, fine, first, placeHead, rangeHead, placeDay, rangeMasks, blamed, judgePair, judgeBlank, judgeHour, judgeHours, surveysLeft, surveyTests, placeEnforcement, placePlant, judgeStopped, judgeSurvey, placeBatch, rangeBatch, judgeEntry, placeEnd, lineMethod, judgeFuel, judgeRecord, judgeReadings, judge}
+use Rattle.rules.proofs.Faults.{Stands, stands, stands-fine, stands-seek, Within, withins, within-fine, within-first, within-seek, first-goes, first-stops, passed, each-passed, both-passed}
 use Rattle.day.proofs.Hours.{pair-stands, hour-stands}
 use Rattle.day.proofs.Laws.{PairAccepted, pair-accepted}
 
 -- ---- a fault that refuses, or is fine
-entry-stands : (entry : Coefficients) → Stands (judgeEntry entry)
-unfolding judgeEntry
-entry-stands (Balance q k) = search stands
-entry-stands (Oxides c) = search stands
-entry-stands (Dust a b) = search stands
-entry-stands NoEntry = sym (first-refused 7 0 fine refl)
-
 pub record-stands : (v : View) (runs : List ℕ) (r : Record) → Stands (judgeRecord v runs r)
-unfolding judgeRecord rangeHead placeDay rangeMasks judgeSurvey judgeStopped rangeBatch judgeFuel
-record-stands v runs Bad = sym (first-refused 1 0 fine refl)
+unfolding judgeRecord rangeHead placeDay rangeMasks judgeSurvey judgeStopped rangeBatch judgeEntry judgeFuel
+record-stands v runs Bad = search stands
 record-stands v runs (OfHead h) = search stands depth 20
 record-stands v runs (OfDay d) = search stands depth 20
 record-stands v runs (OfEnforcement s) = search stands depth 20
 record-stands v runs (OfPlant s) = search stands depth 20
 record-stands v runs (OfBatch b) = search stands depth 20
-record-stands v runs OfEnd = search (stands, entry-stands) depth 20
+record-stands v runs OfEnd = search stands depth 20
 
 hours-stand : (d : Day) → Stands (judgeHours d)
 unfolding judgeHours
@@ -59,22 +54,15 @@ readings-stand bytes (OfBatch b) = stands-fine
 readings-stand bytes OfEnd = stands-fine
 
 -- ---- where a record is refused: within its bytes, however few
-entry-within : (n : ℕ) (entry : Coefficients) → Within n (judgeEntry entry)
-unfolding judgeEntry
-entry-within n (Balance q k) = search withins
-entry-within n (Oxides c) = search withins
-entry-within n (Dust a b) = search withins
-entry-within n NoEntry = search withins
-
 pub record-within : (n : ℕ) (v : View) (runs : List ℕ) (r : Record) → Within n (judgeRecord v runs r)
-unfolding judgeRecord placeHead rangeHead placeDay rangeMasks placeEnforcement placePlant judgeSurvey judgePair judgeStopped placeBatch rangeBatch placeEnd judgeFuel
+unfolding judgeRecord placeHead rangeHead placeDay rangeMasks placeEnforcement placePlant judgeSurvey judgePair judgeStopped placeBatch rangeBatch judgeEntry placeEnd judgeFuel
 record-within n v runs Bad = search withins
 record-within n v runs (OfHead h) = search withins depth 20
 record-within n v runs (OfDay d) = search withins depth 20
 record-within n v runs (OfEnforcement s) = search withins depth 20
 record-within n v runs (OfPlant s) = search withins depth 20
 record-within n v runs (OfBatch b) = search withins depth 20
-record-within n v runs OfEnd = search (withins, entry-within) depth 20
+record-within n v runs OfEnd = search withins depth 20
 
 hour-within : (n : ℕ) (d : Day) (h : ℕ) → Within n (judgeHour d h)
 unfolding judgeHour judgePair judgeBlank
@@ -180,7 +168,7 @@ module _ (v : View) where
       record { inside = p 0; room = ltb-true _ _ (p 2); sulphur-most = leb-true _ _ (r 1); ash-most = leb-true _ _ (r 2); fuel-most = leb-true _ _ (r 3) }
 
   entry-ok : (entry : Coefficients) → judgeEntry entry ≡ fine → entry ≡ NoEntry → ⊥
-  unfolding judgeEntry refuse fine
+  unfolding judgeEntry blamed need coefficientsOnPaper refuse fine
   entry-ok entry e q = let z : _≡_ {A = ℕ} 7 0 = ap (λ (f : Fault). f .number) (sym (ap judgeEntry q) ∙ e) in omega arith
 
   fuel-ok : judgeFuel v ≡ fine → 2 < lineMethod v → (0 < v .batches) × (coefficientsOf (v .head) ≡ NoEntry → ⊥)
@@ -198,5 +186,5 @@ module _ (v : View) where
 
   -- a bad record is always refused
   pub bad-refused : (runs : List ℕ) → judgeRecord v runs Bad ≡ fine → ⊥
-  unfolding judgeRecord refuse fine
+  unfolding judgeRecord blamed need recordOnPaper refuse fine
   bad-refused runs e = let z : _≡_ {A = ℕ} 1 0 = ap (λ (f : Fault). f .number) e in omega arith

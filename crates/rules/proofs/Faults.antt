@@ -25,7 +25,7 @@ pub first-fine : (f : Fault) → first fine f ≡ f
 unfolding first fine need
 first-fine f = refl
 
-pub first-refused : (number place : ℕ) (f : Fault) → eqb number 0 ≡ false → refuse number place ≡ first (refuse number place) f
+first-refused : (number place : ℕ) (f : Fault) → eqb number 0 ≡ false → refuse number place ≡ first (refuse number place) f
 unfolding first refuse
 first-refused number place f e = need-false (refuse number place) (eqb number 0) f e
 

@@ -5,6 +5,7 @@ mod table_a1; // table_a1.rt
 
 ghost use mathlib.Core.Path.{_≡_};
 ghost use Rattle.rules.specs.Tables.{balanceOf, oxidesOf, dustOf, coefficientsOf};
+ghost use Rattle.rules.specs.OnPaper.{coefficientsOnPaper};
 use crate::entries::k_entry;
 use crate::entries::q_entry;
 use crate::table_a1::dust_entry;
@@ -49,7 +50,7 @@ fn dust_of(e: DustEntry) -> Coefficients
 
 // What the tables have for a line that goes by fuel: "sulphur dioxide by mass balance (3), the others by coefficient (4)".
 pub fn coefficients(h: Head) -> Coefficients
-    ensures { λ r. ⌜ r ≡ coefficientsOf h ⌝ }
+    ensures { λ r. ⌜ coefficientsOnPaper r ≡ coefficientsOnPaper (coefficientsOf h) ⌝ }
 {
     if h.pollutant == 1 {
         return balance_of(q_entry(h.furnace, h.coal), k_entry(h.furnace));

@@ -16,6 +16,8 @@ use Rattle.rules.specs.declared.Record.{Record}
 use Rattle.rules.specs.declared.Record.the-variants.{Bad}
 use Rattle.rules.specs.declared.View.{View}
 use Rattle.rules.specs.Records.{Placed, recordIn, sizeIn, recordsFrom, recordsOf}
+use Rattle.rules.specs.OnPaper.{recordOnPaper}
+use Rattle.rules.proofs.OnPaper.{record-only}
 use Rattle.rules.specs.Judge.{refuse, fine, first, judgeRecord, judgeReadings, judge, atPlace}
 use Rattle.rules.specs.Row.{rowsOf, totalOf, totalsOf, cells, concentrationCells, flowCells}
 use Rattle.rules.specs.Walk.{Stand, Between, Inside, viewOf, runsOf, taken, ended, faultOf, walk, Refused, outcome}
@@ -134,7 +136,10 @@ module _ (file : List ℕ) (v : View) (s : Sums) (at : ℕ) (o : Open) (d : Done
   in-file : (f : Fault) → Within (length bytes) f → at + f .place ≤ length file
   in-file f w = omega (arith, w, ap length (part-whole at file), length-drop at file)
 
-  module _ (r : Record) (read : r ≡ recordIn bytes) (f : Fault) (judged : f ≡ judgeRecord v (take (v .days) (o .runs)) r) where
+  module _ (r : Record) (paper : recordOnPaper r ≡ recordOnPaper (recordIn bytes)) (f : Fault) (judged : f ≡ judgeRecord v (take (v .days) (o .runs)) r) where
+    read : r ≡ recordIn bytes
+    read = record-only r (recordIn bytes) paper
+
     judged-here : f ≡ judgeRecord v (runsOf (g .stand)) r
     judged-here = judged ∙ ap (λ (l : List ℕ). judgeRecord v l r) (lent-stand (g .stand) v s o d (g .kept))
 

@@ -43,7 +43,7 @@ use Rattle.rules.proofs.Method.{manual-surveyed}
 use Rattle.walk.specs.Closing.{gramsIn}
 use Rattle.fills.specs.Period.{periodStates}
 use Rattle.fuel.specs.Fuel.{fuelFigure, ashOf, InRange}
-use Rattle.fuel.specs.declared.FuelFigure.{FuelFigure}
+use Rattle.rules.specs.OnPaper.{OnPaper}
 use Rattle.fuel.proofs.Figures.{line-figure, line-wanting, grams-fit}
 use Rattle.walk.proofs.Views.{survey-count}
 
@@ -92,14 +92,14 @@ surveys-are x = refl
 
 -- fuel's own figure is never too large
 module _ (h : Head) (batches : List Batch) (i : InRange batches) where
-  abbrev figureNow : FuelFigure
+  abbrev figureNow : OnPaper
   figureNow = fuelFigure h (fuel batches) (sulphurOf batches) (ashOf batches)
 
   found-most : (coefficientsOf h ≡ NoEntry → ⊥) → gramsIn figureNow ≤ mostGrams
-  found-most n = subst (λ (f : FuelFigure). gramsIn f ≤ mostGrams) (sym (line-figure h batches i n)) (omega (arith, grams-fit h batches i))
+  found-most n = subst (λ (f : OnPaper). gramsIn f ≤ mostGrams) (sym (line-figure h batches i n)) (omega (arith, grams-fit h batches i))
 
   fuel-by : (c : Coefficients) → coefficientsOf h ≡ c → gramsIn figureNow ≤ mostGrams
-  fuel-by NoEntry e = subst (λ (f : FuelFigure). gramsIn f ≤ mostGrams) (sym (line-wanting h batches i e)) (omega arith)
+  fuel-by NoEntry e = subst (λ (f : OnPaper). gramsIn f ≤ mostGrams) (sym (line-wanting h batches i e)) (omega arith)
   fuel-by (Balance q k) e = found-most (λ z. let t : _≡_ {A = ℕ} 0 1 = cc in omega arith)
   fuel-by (Oxides q) e = found-most (λ z. let t : _≡_ {A = ℕ} 0 1 = cc in omega arith)
   fuel-by (Dust q k) e = found-most (λ z. let t : _≡_ {A = ℕ} 0 1 = cc in omega arith)
@@ -322,7 +322,7 @@ module _ (bytes : List ℕ) (v : View) (s : Sums) (o : Open) (d : Done) where
         weight = w .1;
         running = omega (arith, ap (λ (u : View). u .running) e, running-period (x .days), y .days, y .period);
         lines = omega (arith, ap (λ (u : View). u .lines) e, z .lines);
-        fuel = subst (λ (g : FuelFigure). gramsIn g ≤ mostGrams) (sym f) (fuel-most (x .head) (x .batches) (y .fuel .range));
+        fuel = subst (λ (g : OnPaper). gramsIn g ≤ mostGrams) (sym f) (fuel-most (x .head) (x .batches) (y .fuel .range));
         pollutant = (omega (arith, p, y .pollutant .0), omega (arith, p, y .pollutant .1));
         totals = λ i. omega (arith, z .done .most i, z .lines);
       }) (k .kept)

@@ -9,16 +9,13 @@ use Rattle.law.specs.Words.{pick, halvesUp}
 use Rattle.fills.specs.Gaps.{filledCells}
 use Rattle.fills.specs.Weights.{products}
 use Rattle.rules.specs.declared.View.{View}
+use Rattle.rules.specs.OnPaper.{OnPaper}
 use Rattle.fuel.specs.Fuel.{fuelFigure}
-use Rattle.fuel.specs.declared.FuelFigure.{FuelFigure}
-use Rattle.fuel.specs.declared.FuelFigure.the-variants.{Grams, WithoutEntry, OutOfRange}
 use Rattle.walk.specs.declared.books.Sums.{Sums}
 
--- grams by fuel, and 0 for none
-abbrev pub gramsIn : FuelFigure → ℕ
-gramsIn (Grams g) = g
-gramsIn WithoutEntry = 0
-gramsIn OutOfRange = 0
+-- grams by fuel, the first value of the figure on paper, and 0 for none
+abbrev pub gramsIn : OnPaper → ℕ
+gramsIn figure = getD (figure .values) 0 0
 
 -- the weight of the period's cells
 abbrev pub periodWeight : ℕ → List ℕ → List ℕ → ℕ

@@ -8,10 +8,11 @@ ghost use lib.ListN.{length, getD};
 ghost use Rattle.law.specs.Numbers.{hoursOfDay, mostHours, mostLines, totalCells, mostSurveys, mostAmount, perGram, mostGrams};
 ghost use Rattle.law.specs.Words.{halvesUp};
 ghost use Rattle.fills.specs.Weights.{products};
+ghost use Rattle.fuel.specs.Fuel.{fuelOnPaper};
 ghost use Rattle.walk.specs.Closing.{gramsIn, periodWeight, GramsReady, lineGrams, withGrams};
 
 fn grams_in(f: FuelFigure) -> u64
-    ensures { λ r. ⌜ r ≡ gramsIn f ⌝ }
+    ensures { λ r. ⌜ r ≡ gramsIn (fuelOnPaper f) ⌝ }
 {
     match f {
         FuelFigure::Grams(g) => g,

@@ -1,28 +1,30 @@
 -- `fuel::figure` meets its contract: every product fits, since the tables' entries are small, and each arm is the figure of its entry. Assumes nothing.
-use mathlib.Core.Path.{_≡_, refl, sym, ap, _∙_}
+use Prim.Native.Nat.{ℕ}
+use mathlib.Core.List.{[], _∷_}
+use mathlib.Core.Path.{_≡_, refl, ap}
 use native.Mathlib.Nat.{le-trans}
 use native.Mathlib.Omega.{arith}
 use lib.Dec.{lit<, lit≤}
 use mir.Facts.{fits-le, fits-lit}
 use Rattle.rules.specs.declared.Coefficients.the-variants.{Balance, Oxides, Dust}
 use Rattle.rules.specs.Tables.{coefficientsOf}
+use Rattle.rules.specs.OnPaper.{says, coefficientsOnPaper}
 use Rattle.rules.specs.Grams.{fuelBottom}
-use Rattle.fuel.specs.declared.FuelFigure.the-variants.{Grams}
-use Rattle.fuel.specs.Fuel.{topOf, figureOf}
-use Rattle.fuel.proofs.Figures.{entry-small, burnt-fits, sulphured-fits, balance-fits, oxides-fits, a-fits, b-fits, dust-fits, by-entry}
+use Rattle.fuel.specs.Fuel.{topOf, figureOf, fuelOnPaper}
+use Rattle.fuel.proofs.Figures.{is-entry, entry-small, burnt-fits, sulphured-fits, balance-fits, oxides-fits, a-fits, b-fits, dust-fits, by-entry}
 use borrow.Author.Needs.{needs}
 use Rattle.fuel.proofs.figure.Statement.{statement}
 use Rattle.fuel.proofs.figure.Tie as tie
 
 -- the entry of each arm
 is-balance : (c : tie.After-known-told) → coefficientsOf (c .before .before .before .before .args .h) ≡ Balance (c .before .q .given .0 .0) (c .before .q .given .0 .1 .0)
-is-balance c = sym (c .before .before .before .coefficients .ensures) ∙ c .before .q .given .1
+is-balance c = is-entry _ _ _ (c .before .before .before .coefficients .ensures) (c .before .q .given .1)
 
 is-oxides : (c : tie.After-known-told2) → coefficientsOf (c .before .before .before .before .args .h) ≡ Oxides (c .before .coefficient .given .0 .0)
-is-oxides c = sym (c .before .before .before .coefficients .ensures) ∙ c .before .coefficient .given .1
+is-oxides c = is-entry _ _ _ (c .before .before .before .coefficients .ensures) (c .before .coefficient .given .1)
 
 is-dust : (c : tie.After-known-told3) → coefficientsOf (c .before .before .before .before .args .h) ≡ Dust (c .before .a .given .0 .0) (c .before .a .given .0 .1 .0)
-is-dust c = sym (c .before .before .before .coefficients .ensures) ∙ c .before .a .given .1
+is-dust c = is-entry _ _ _ (c .before .before .before .coefficients .ensures) (c .before .a .given .1)
 
 coefficients-requires : tie.Need-coefficients-requires
 coefficients-requires c κs = search needs
@@ -94,20 +96,20 @@ enum-told : tie.Need-enum-told
 enum-told c = search needs
 
 returns : tie.Need-returns
-unfolding figureOf topOf fuelBottom
-returns c = by-entry _ _ _ _ _ _ (is-balance (c .before)) (ap Grams (c .halves-up .ensures))
+unfolding fuelOnPaper figureOf topOf fuelBottom
+returns c = by-entry _ _ _ _ _ _ (is-balance (c .before)) (ap (λ (g : ℕ). says (g ∷ [])) (c .halves-up .ensures))
 
 returns-2 : tie.Need-returns-2
-unfolding figureOf topOf fuelBottom
-returns-2 c = by-entry _ _ _ _ _ _ (is-oxides (c .before)) (ap Grams (c .halves-up2 .ensures))
+unfolding fuelOnPaper figureOf topOf fuelBottom
+returns-2 c = by-entry _ _ _ _ _ _ (is-oxides (c .before)) (ap (λ (g : ℕ). says (g ∷ [])) (c .halves-up2 .ensures))
 
 returns-3 : tie.Need-returns-3
-unfolding figureOf topOf fuelBottom
-returns-3 c = by-entry _ _ _ _ _ _ (is-dust (c .before)) (ap Grams (c .halves-up3 .ensures))
+unfolding fuelOnPaper figureOf topOf fuelBottom
+returns-3 c = by-entry _ _ _ _ _ _ (is-dust (c .before)) (ap (λ (g : ℕ). says (g ∷ [])) (c .halves-up3 .ensures))
 
 returns-4 : tie.Need-returns-4
-unfolding figureOf
-returns-4 c = by-entry _ _ _ _ _ _ (sym (c .before .before .coefficients .ensures) ∙ c .enum-told .given .1) refl
+unfolding fuelOnPaper coefficientsOnPaper figureOf
+returns-4 c = by-entry _ _ _ _ _ _ (is-entry _ _ _ (c .before .before .coefficients .ensures) (c .enum-told .given .1)) refl
 
 pub figure-spec : {M : Type 1} → statement M
 figure-spec =

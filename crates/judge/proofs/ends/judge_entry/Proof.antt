@@ -1,5 +1,7 @@
 -- `judge::ends::judge_entry` meets its contract, by its cases. Assumes nothing.
-use Rattle.rules.specs.Judge.{judgeEntry, refuse, fine}
+use Rattle.law.specs.Words.{need}
+use Rattle.rules.specs.OnPaper.{coefficientsOnPaper}
+use Rattle.rules.specs.Judge.{refuse, fine, blamed, judgeEntry}
 use borrow.Author.Needs.{needs}
 use Rattle.judge.proofs.ends.judge_entry.Statement.{statement}
 use Rattle.judge.proofs.ends.judge_entry.Tie as tie
@@ -17,19 +19,19 @@ enum-told-4 : tie.Need-enum-told-4
 enum-told-4 c = search needs
 
 returns : tie.Need-returns
-unfolding judgeEntry refuse fine
+unfolding judgeEntry blamed need coefficientsOnPaper refuse fine
 returns c = simp (c .enum-told .given .1)
 
 returns-2 : tie.Need-returns-2
-unfolding judgeEntry refuse fine
+unfolding judgeEntry blamed need coefficientsOnPaper refuse fine
 returns-2 c = simp (c .enum-told2 .given .1)
 
 returns-3 : tie.Need-returns-3
-unfolding judgeEntry refuse fine
+unfolding judgeEntry blamed need coefficientsOnPaper refuse fine
 returns-3 c = simp (c .enum-told3 .given .1)
 
 returns-4 : tie.Need-returns-4
-unfolding judgeEntry refuse fine
+unfolding judgeEntry blamed need coefficientsOnPaper refuse fine
 returns-4 c = simp (c .enum-told4 .given .1)
 
 pub judge-entry-spec : {M : Type 1} → statement M

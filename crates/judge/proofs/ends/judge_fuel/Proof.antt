@@ -6,7 +6,8 @@ use lib.Dec.{leb}
 use Rattle.law.specs.Words.{pick}
 use Rattle.rules.specs.declared.Fault.{Fault}
 use Rattle.law.proofs.Tests.{pick-le, pick-not-le}
-use Rattle.rules.specs.Judge.{fine, judgeEntry, judgeFuel}
+use Rattle.rules.specs.OnPaper.{OnPaper}
+use Rattle.rules.specs.Judge.{fine, blamed, judgeEntry, judgeFuel}
 use Rattle.rules.proofs.Faults.{first-parts, first-need}
 use borrow.Author.Needs.{needs}
 use Rattle.judge.proofs.ends.judge_fuel.Statement.{statement}
@@ -40,10 +41,10 @@ first-of-requires : tie.Need-first-of-requires
 first-of-requires c κs = search needs
 
 returns-2 : tie.Need-returns-2
-unfolding judgeFuel
+unfolding judgeEntry judgeFuel
 returns-2 c =
     high _ _ (c .before .before .before .before .before .before .line-method .ensures) _ _ _ (c .before .before .before .before .before .if1 .left)
-    (first-parts _ _ _ _ _ (c .first-of .ensures) (c .before .before .before .refuse-unless .ensures) (c .before .judge-entry .ensures ∙ ap judgeEntry (c .before .before .coefficients .ensures))
+    (first-parts _ _ _ _ _ (c .first-of .ensures) (c .before .before .before .refuse-unless .ensures) (c .before .judge-entry .ensures ∙ ap (λ (p : OnPaper). blamed (p .number)) (c .before .before .coefficients .ensures))
     ∙ first-need _ _ _ _ refl)
 
 pub judge-fuel-spec : {M : Type 1} → statement M
