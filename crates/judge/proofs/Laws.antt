@@ -169,7 +169,7 @@ module _ (v : View) where
 
   entry-ok : (entry : Coefficients) → judgeEntry entry ≡ fine → entry ≡ NoEntry → ⊥
   unfolding judgeEntry blamed need coefficientsOnPaper refuse fine
-  entry-ok entry e q = let z : _≡_ {A = ℕ} 7 0 = ap (λ (f : Fault). f .number) (sym (ap judgeEntry q) ∙ e) in omega arith
+  entry-ok entry e q = let z : judgeEntry NoEntry .number ≡ 0 = ap (λ (f : Fault). f .number) (sym (ap judgeEntry q) ∙ e) in omega arith
 
   fuel-ok : judgeFuel v ≡ fine → 2 < lineMethod v → (0 < v .batches) × (coefficientsOf (v .head) ≡ NoEntry → ⊥)
   unfolding judgeFuel
@@ -187,4 +187,4 @@ module _ (v : View) where
   -- a bad record is always refused
   pub bad-refused : (runs : List ℕ) → judgeRecord v runs Bad ≡ fine → ⊥
   unfolding judgeRecord blamed need recordOnPaper refuse fine
-  bad-refused runs e = let z : _≡_ {A = ℕ} 1 0 = ap (λ (f : Fault). f .number) e in omega arith
+  bad-refused runs e = let z : judgeRecord v runs Bad .number ≡ 0 = ap (λ (f : Fault). f .number) e in omega arith
