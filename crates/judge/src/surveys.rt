@@ -23,13 +23,11 @@ fn judge_survey(v: View, runs: &[u32], s: Survey) -> Fault
     ensures { λ f. ⌜ f ≡ judgeSurvey v (now (runs .entry)) s ⌝ }
 {
     let pair = s.pair;
-    first_of(
-        refuse_unless(3, (s.hour as u32) < 24 * (v.head.days as u32)),
-        first_of(
-            day::judge_pair(pair),
-            refuse_unless(5, hours::runs_at(runs, s.hour)),
-        ),
-    )
+    let past = refuse_unless(3, (s.hour as u32) < 24 * (v.head.days as u32));
+    let unfit = day::judge_pair(pair);
+    let stopped = refuse_unless(5, hours::runs_at(runs, s.hour));
+    let later = first_of(unfit, stopped);
+    first_of(past, later)
 }
 
 // Kind 3: no plant survey before it.
