@@ -3,10 +3,11 @@ ghost use mathlib.Core.Path.{_≡_};
 ghost use mathlib.Core.Bool.{true};
 ghost use Prim.Native.Nat.{_*_, _<_};
 ghost use Rattle.law.specs.Numbers.{mostHours};
+ghost use Rattle.reading.specs.Reading.{concentrationOf, flowOf, both};
 ghost use Rattle.panel.specs.Lawful.{lawfulTotal};
-ghost use Rattle.panel.specs.Panel.{unchanged, counted, added, panelStep, emptyPanel};
-use reading::Figures;
+ghost use Rattle.panel.specs.Panel.{unchanged, counted, added, afterHour, panelStep, emptyPanel};
 use reading::Hour;
+use reading::Rounded;
 
 mod lawful;
 
@@ -68,6 +69,22 @@ impl Panel {
         self.count()
     }
 
+    // A measured hour: 4, or the product of its two figures.
+    fn measure(self, c: f32, l: f32) -> Stepped
+        requires { ⌜ (lawfulTotal (self .total) ≡ true) × (self .hours < mostHours) ⌝ }
+        ensures { λ r. ⌜ r ≡ afterHour self (both (concentrationOf c) (flowOf l)) ⌝ }
+    {
+        let x = reading::concentration(c);
+        let y = reading::flow(l);
+        match x {
+            Rounded::Value(n) => match y {
+                Rounded::Value(k) => self.add(n, k),
+                Rounded::NotAllowed => self.refuse(4),
+            },
+            Rounded::NotAllowed => self.refuse(4),
+        }
+    }
+
     // "Each hour hands the next state back", for every state and every hour: 12, 11, 4, 10.
     pub fn hour(mut self, h: Hour) -> Stepped
         ensures { λ r. ⌜ r ≡ panelStep self h ⌝ }
@@ -78,15 +95,13 @@ impl Panel {
         if self.hours >= 2208 {
             return self.refuse(11);
         }
-        let f = reading::figures_of(h);
-        match f {
-            Figures::Both(c, l) => self.add(c, l),
-            Figures::NoData => {
+        match h {
+            Hour::Measured(c, l) => self.measure(c, l),
+            Hour::Missing => {
                 self.missing += 1;
                 self.count()
             }
-            Figures::NotRunning => self.count(),
-            Figures::Unfit => self.refuse(4),
+            Hour::Stopped => self.count(),
         }
     }
 }
