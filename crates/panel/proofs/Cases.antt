@@ -11,9 +11,7 @@ use lib.Ieee.{Float, binary64, fits}
 use lib.Ieee.Exact.{HasValue}
 use Rattle.law.specs.Numbers.{mostHours}
 use Rattle.reading.specs.declared.Hour.{Hour}
-use Rattle.reading.specs.declared.Figures.{Figures}
-use Rattle.reading.specs.declared.Figures.the-variants.{Both, NoData, NotRunning, Unfit}
-use Rattle.reading.specs.Reading.{stated, statedHour, figuresOf}
+use Rattle.reading.specs.Reading.{Figures, Both, NoData, NotRunning, Unfit, stated, statedHour, figuresOf}
 use Rattle.panel.specs.Lawful.{whole, lawfulTotal, lawful, asTotal}
 use Rattle.panel.proofs.Whole.{value, value-only, total-fits, total-lawful, whole-le, lawful-value}
 use Rattle.panel.specs.declared.Panel.{Panel}

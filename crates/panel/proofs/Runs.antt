@@ -13,9 +13,7 @@ use lib.Ieee.Exact.{HasValue}
 use Rattle.law.specs.Numbers.{mostHours}
 use Rattle.law.specs.Words.{sumOf}
 use Rattle.reading.specs.declared.Hour.{Hour}
-use Rattle.reading.specs.declared.Figures.{Figures}
-use Rattle.reading.specs.declared.Figures.the-variants.{Both, NoData, NotRunning, Unfit}
-use Rattle.reading.specs.Reading.{stated, statedHour, figuresOf}
+use Rattle.reading.specs.Reading.{Figures, Both, NoData, NotRunning, Unfit, stated, statedHour, figuresOf}
 use Rattle.panel.specs.Lawful.{whole, lawful, asTotal}
 use Rattle.panel.proofs.Whole.{value, total-lawful, whole-of}
 use Rattle.panel.specs.declared.Panel.{Panel}

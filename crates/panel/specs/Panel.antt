@@ -5,9 +5,7 @@ use lib.Ieee.{Float}
 use Rattle.law.specs.Numbers.{mostHours}
 use Rattle.law.specs.Words.{need}
 use Rattle.reading.specs.declared.Hour.{Hour}
-use Rattle.reading.specs.declared.Figures.{Figures}
-use Rattle.reading.specs.declared.Figures.the-variants.{Both, NoData, NotRunning, Unfit}
-use Rattle.reading.specs.Reading.{statedHour, figuresOf}
+use Rattle.reading.specs.Reading.{Figures, Both, NoData, NotRunning, Unfit, statedHour, figuresOf}
 use Rattle.panel.specs.declared.Panel.{Panel}
 use Rattle.panel.specs.declared.Stepped.{Stepped}
 use Rattle.panel.specs.Lawful.{whole, lawful, asTotal}

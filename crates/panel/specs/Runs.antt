@@ -5,8 +5,7 @@ use mathlib.Core.Path.{_≡_}
 use lib.ListN.{getD}
 use Rattle.law.specs.Words.{sumOf}
 use Rattle.reading.specs.declared.Hour.{Hour}
-use Rattle.reading.specs.declared.Figures.{Figures}
-use Rattle.reading.specs.Reading.{statedHour, figuresOf}
+use Rattle.reading.specs.Reading.{Figures, statedHour, figuresOf}
 use Rattle.panel.specs.declared.Panel.{Panel}
 use Rattle.panel.specs.Panel.{panelStep}
 

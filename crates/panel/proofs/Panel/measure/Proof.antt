@@ -1,9 +1,8 @@
 -- `panel::Panel::measure` meets its contract, by the cases of its two readings. Assumes nothing.
 use mathlib.Core.Path.{_≡_, refl, sym, ap₂, _∙_}
 use borrow.Author.Needs.{needs}
-use Rattle.reading.specs.Reading.{stated, statedHour, both}
+use Rattle.reading.specs.Reading.{Unfit, stated, statedHour, both}
 use Rattle.reading.specs.declared.Rounded.{Rounded}
-use Rattle.reading.specs.declared.Figures.the-variants.{Unfit}
 use Rattle.reading.proofs.Laws.{stated-only}
 use Rattle.panel.specs.declared.Panel.{Panel}
 use Rattle.panel.specs.Panel.{unchanged, afterHour}
