@@ -2,5 +2,4 @@
 pub mod Ones
 pub mod Laws
 pub mod Whole
-pub mod Cells
 pub mod Only
