@@ -40,14 +40,11 @@ pub part-filled : (states cells cells' : List ℕ) (n : ℕ) → cells' ≡ fill
 part-filled states cells cells' n e = e ∙ ap (λ (k : ℕ). filledCells (take k states) cells) (let z : n - 0 ≡ n = omega arith in z)
 
 -- ---- where the states are those that the masks say, a period is filled under method 1, and else as it was
-module _ (runs measured states : List ℕ) (days : ℕ) (said : take (hoursOfDay * days) states ≡ periodStates runs measured days) where
-  abbrev first : ℕ
-  first = firstMissing runs measured days
-
+module _ (runs measured states : List ℕ) (days first : ℕ) (is : first ≡ firstMissing runs measured days) (said : take (hoursOfDay * days) states ≡ periodStates runs measured days) where
   -- a line that lacks no hour is as if filled
   whole-line : (cells : List ℕ) → hoursOfDay * days ≤ length cells → first ≡ 0 → cells ≡ filledCells (periodStates runs measured days) cells
   whole-line cells l w =
-      sym (no-gap (periodStates runs measured days) cells (omega (arith, table-length (stateAt runs measured) (hoursOfDay * days))) (λ k m. no-missing-table runs measured days w k))
+      sym (no-gap (periodStates runs measured days) cells (omega (arith, table-length (stateAt runs measured) (hoursOfDay * days))) (λ k m. no-missing-table runs measured days (sym is ∙ w) k))
 
   module _ (method : ℕ) (conc flow cells : List ℕ) where
     abbrev pub periodNow : List ℕ

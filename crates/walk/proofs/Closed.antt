@@ -16,15 +16,15 @@ use borrow.Author.Tests.{eqb-true, eqb-false}
 use Rattle.rules.specs.declared.View.{View}
 use Rattle.walk.specs.declared.books.Sums.{Sums}
 use Rattle.walk.specs.Taking.{EndReady, EndTaken}
-use Rattle.fills.specs.Period.{periodStates, isFilled, periodCells}
+use Rattle.hours.specs.States.{stateAt, periodStates}
+use Rattle.rules.specs.Hours.{firstMissing}
 use Rattle.line.specs.Line.{rowIn}
-use Rattle.fills.proofs.Period.{filled-on, filled-off}
+use Rattle.fills.proofs.Period.{periodNow, period-filled, period-plain}
 use Rattle.walk.specs.declared.take.Taken.{Taken}
 use Rattle.walk.specs.Books.{putFrom, Done}
 use Rattle.walk.specs.Views.{afterEnd}
 use Rattle.rules.specs.Judge.{fine, lineMethod}
 use Rattle.law.proofs.Tabled.{table-length}
-use Rattle.hours.specs.States.{stateAt}
 use Rattle.fills.specs.Gaps.{filledCells}
 use Rattle.fills.specs.Weights.{products}
 use Rattle.fills.proofs.Bounds.{largest-each, filled-most, products-most}
@@ -66,7 +66,7 @@ halves-most n d m l h =
     let k : perGram * halvesUp n d ≤ d * halvesUp n d = mul-le-mul-right (halvesUp n d) l in
     omega (arith, w .1)
 
-module _ (v : View) (s : Sums) (runs measured conc flow conc' flow' : List ℕ) (totals : List ℕ) (g : ℕ) (e : EndReady v s conc flow totals) where
+module _ (v : View) (s : Sums) (runs measured states conc flow conc' flow' : List ℕ) (totals : List ℕ) (g : ℕ) (e : EndReady v s runs measured states conc flow totals) where
   abbrev figures : ℕ → Type 0
   figures m = LineGrams m v s (periodStates runs measured (v .head .days)) conc flow conc' flow' g
 
@@ -89,25 +89,26 @@ module _ (v : View) (s : Sums) (runs measured conc flow conc' flow' : List ℕ) 
   line-small m q r = small-by m q r (eqb m 1) (eqb m 2) refl refl
 
   -- ---- filled under method 1, and else as they were
-  module _ (m : ℕ) (cells : List ℕ) where
-    filled-now : m ≡ 1 → periodCells (isFilled m (v .head .days) conc flow) (periodStates runs measured (v .head .days)) cells ≡ filledCells (periodStates runs measured (v .head .days)) cells
-    filled-now z = sym (pick-true (isFilled m (v .head .days) conc flow) (filledCells (periodStates runs measured (v .head .days)) cells) cells (filledCells (periodStates runs measured (v .head .days)) cells) (filled-on m (v .head .days) conc flow z (e .days) (e .concLong) (e .flowLong)) refl)
+  module _ (m first : ℕ) (is : first ≡ firstMissing runs measured (v .head .days)) (cells : List ℕ) where
+    abbrev now : List ℕ
+    now = periodNow runs measured states (v .head .days) first is (e .said) m conc flow cells
 
-    plain-now : (m ≡ 1 → ⊥) → periodCells (isFilled m (v .head .days) conc flow) (periodStates runs measured (v .head .days)) cells ≡ cells
-    plain-now z = sym (pick-false (isFilled m (v .head .days) conc flow) (filledCells (periodStates runs measured (v .head .days)) cells) cells cells (filled-off m (v .head .days) conc flow z) refl)
+    filled-now : m ≡ 1 → length cells ≡ mostHours → now ≡ filledCells (periodStates runs measured (v .head .days)) cells
+    filled-now z l = period-filled runs measured states (v .head .days) first is (e .said) m conc flow cells z (e .days) (e .concLong) (e .flowLong) l
 
-  module _ (m : ℕ)
-      (ec : conc' ≡ periodCells (isFilled m (v .head .days) conc flow) (periodStates runs measured (v .head .days)) conc)
-      (el : flow' ≡ periodCells (isFilled m (v .head .days) conc flow) (periodStates runs measured (v .head .days)) flow)
+    plain-now : (m ≡ 1 → ⊥) → now ≡ cells
+    plain-now z = period-plain runs measured states (v .head .days) first is (e .said) m conc flow cells z
+
+  module _ (m first : ℕ) (is : first ≡ firstMissing runs measured (v .head .days)) (ec : conc' ≡ now m first is conc) (el : flow' ≡ now m first is flow)
     where
       pub weight-most : m ≡ 1 → periodWeight (v .head .days) conc' flow' ≤ mostHours * mostAmount
-      weight-most z = period-most runs measured (v .head .days) (e .days) conc flow conc' flow' (e .concLong) (e .flowLong) (e .limits) (ec ∙ filled-now m conc z) (el ∙ filled-now m flow z)
+      weight-most z = period-most runs measured (v .head .days) (e .days) conc flow conc' flow' (e .concLong) (e .flowLong) (e .limits) (ec ∙ filled-now m first is conc z (e .concLong)) (el ∙ filled-now m first is flow z (e .flowLong))
 
       line-by : (a b : Bool) → eqb m 1 ≡ a → eqb m 2 ≡ b → m ≡ lineMethod v → g ≡ lineGrams m v s conc' flow' → figures m
       line-by true b t u q r =
           let z = eqb-true m 1 t in
           record {
-            automatic = λ _. record { concentrations = ec ∙ filled-now m conc z; flows = el ∙ filled-now m flow z; grams = r ∙ sym (pick-true _ _ _ _ t refl) };
+            automatic = λ _. record { concentrations = ec ∙ filled-now m first is conc z (e .concLong); flows = el ∙ filled-now m first is flow z (e .flowLong); grams = r ∙ sym (pick-true _ _ _ _ t refl) };
             manual = λ i. absurd (omega arith);
             fuel = λ n _. absurd (n z);
           }
@@ -116,7 +117,7 @@ module _ (v : View) (s : Sums) (runs measured conc flow conc' flow' : List ℕ) 
           let z = eqb-true m 2 u in
           record {
             automatic = λ i. absurd (n i);
-            manual = λ _. (ec ∙ plain-now m conc n, el ∙ plain-now m flow n, r ∙ sym (pick-false _ _ _ _ t refl) ∙ sym (pick-true _ _ _ _ u refl));
+            manual = λ _. (ec ∙ plain-now m first is conc n, el ∙ plain-now m first is flow n, r ∙ sym (pick-false _ _ _ _ t refl) ∙ sym (pick-true _ _ _ _ u refl));
             fuel = λ _ i. absurd (i z);
           }
       line-by false false t u q r =
@@ -124,7 +125,7 @@ module _ (v : View) (s : Sums) (runs measured conc flow conc' flow' : List ℕ) 
           record {
             automatic = λ i. absurd (n i);
             manual = λ i. absurd (eqb-false m 2 u i);
-            fuel = λ _ _. (ec ∙ plain-now m conc n, el ∙ plain-now m flow n, r ∙ sym (pick-false _ _ _ _ t refl) ∙ sym (pick-false _ _ _ _ u refl));
+            fuel = λ _ _. (ec ∙ plain-now m first is conc n, el ∙ plain-now m first is flow n, r ∙ sym (pick-false _ _ _ _ t refl) ∙ sym (pick-false _ _ _ _ u refl));
           }
 
       pub line-is : m ≡ lineMethod v → g ≡ lineGrams m v s conc' flow' → figures m

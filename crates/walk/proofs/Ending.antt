@@ -37,7 +37,7 @@ use Rattle.walk.specs.Views.{afterEnd}
 use Rattle.walk.specs.Books.{noRows, putFrom, valuesAt, Open, inOpen, Done, CellsKept, Kept}
 use Rattle.walk.specs.Closing.{gramsIn, periodWeight, LineGrams, withGrams}
 use Rattle.walk.specs.Taking.{EndTaken}
-use Rattle.fills.specs.Period.{periodStates}
+use Rattle.hours.specs.States.{periodStates}
 use Rattle.line.specs.Line.{rowIn}
 use Rattle.rules.specs.Judge.{lineMethod}
 use Rattle.walk.proofs.Views.{survey-count, view-end}
@@ -237,7 +237,7 @@ module _ (x : Line) (done : List Line) (v : View) (s : Sums) (o : Open) (d : Don
           subst (λ (t : List ℕ). getD t i 0 ≤ suc (length done) * mostGrams) (sym (e .totalsNow))
           (set-most (d .totals) own (e .grams + getD (d .totals) own 0) (suc (length done) * mostGrams) (λ j. omega (arith, k .done .most j)) (omega (arith, k .done .most own, e .small)) i)
 
-      pub kept-end : Kept (Between (x ∷ done)) (r .view) (r .sums) (inOpen (o .runs) (o .measured) (o .flags) conc' flow') d'
+      pub kept-end : Kept (Between (x ∷ done)) (r .view) (r .sums) (inOpen (o .runs) (o .measured) (o .states) (o .flags) conc' flow') d'
       unfolding rowsOf concentrationCells flowCells cs ls
       kept-end =
           let c = shut .concentrations in
@@ -257,6 +257,7 @@ module _ (x : Line) (done : List Line) (v : View) (s : Sums) (o : Open) (d : Don
                 record {
                   runs = k .long .runs;
                   measured = k .long .measured;
+                  states = k .long .states;
                   flags = k .long .flags;
                   concentrations = ap length c ∙ held-cells x (λ w. w .c) few;
                   flows = ap length l ∙ held-cells x (λ w. w .l) few;

@@ -21,7 +21,7 @@ use Rattle.rules.specs.Method.{method}
 use Rattle.rules.specs.Row.{cells, held}
 use Rattle.hours.specs.States.{stateAt}
 use Rattle.rules.proofs.Days.{length-slots}
-use Rattle.hours.proofs.Laws.{stateIn, slotIn, state-slot}
+use Rattle.hours.proofs.Laws.{slotState, slotIn, state-slot}
 use Rattle.fills.specs.Gaps.{slotAt, row, filledCells}
 use Rattle.rules.proofs.Slots.{entries-length, line-at}
 use Rattle.fills.proofs.Filled.{filled-line, filled-rest}
@@ -69,20 +69,20 @@ module _ (x : Line) where
   slots-at h l = List·getD-map (mapSlot valuesOf) (hours x) h stopped ∙ ap (mapSlot valuesOf) (hours-at h l)
 
 -- ---- a survey changes no hour's state
-survey-state : (h : ℕ) (ss : List Survey) (o : Slot Pair) → stateIn o ≡ 2 → stateIn (surveyAt h ss o) ≡ 2
-unfolding surveyAt stateIn
+survey-state : (h : ℕ) (ss : List Survey) (o : Slot Pair) → slotState o ≡ 2 → slotState (surveyAt h ss o) ≡ 2
+unfolding surveyAt slotState
 survey-state h [] o e = e
-survey-state h (s ∷ ss) o e = pick-case (λ (t : Slot Pair). stateIn t ≡ 2) (eqb h (s .hour)) (valid (s .pair)) (surveyAt h ss o) (λ _. refl) (λ _. survey-state h ss o e)
+survey-state h (s ∷ ss) o e = pick-case (λ (t : Slot Pair). slotState t ≡ 2) (eqb h (s .hour)) (valid (s .pair)) (surveyAt h ss o) (λ _. refl) (λ _. survey-state h ss o e)
 
-replaced-state : (es ps : List Survey) (h : ℕ) (o : Slot Pair) → stateIn (replaced es ps h o) ≡ stateIn o
-unfolding replaced stateIn
+replaced-state : (es ps : List Survey) (h : ℕ) (o : Slot Pair) → slotState (replaced es ps h o) ≡ slotState o
+unfolding replaced slotState
 replaced-state es ps h (valid p) = survey-state h es (surveyAt h ps (valid p)) (survey-state h ps (valid p) refl)
 replaced-state es ps h missing = refl
 replaced-state es ps h stopped = refl
 
 -- a slot by its state and the value of its hour
-slot-by : (f : Values → ℕ) (o : Slot Pair) → mapSlot f (mapSlot valuesOf o) ≡ slotIn (stateIn o) (f (inCell o))
-unfolding mapSlot stateIn slotIn inCell pick
+slot-by : (f : Values → ℕ) (o : Slot Pair) → mapSlot f (mapSlot valuesOf o) ≡ slotIn (slotState o) (f (inCell o))
+unfolding mapSlot slotState slotIn inCell pick
 slot-by f (valid p) = refl
 slot-by f missing = refl
 slot-by f stopped = refl

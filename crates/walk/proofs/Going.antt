@@ -63,12 +63,12 @@ module _ (file : List ℕ) (at : ℕ) (stand : Stand) where
 pub zeros : (n : ℕ) → table {A = ℕ} (λ h. 0) n ≡ replicate n 0
 zeros n = sym (table-is (λ h. 0) n 0 (replicate n 0) (length-replicate n 0) (λ k l. getD-replicate n k 0 0 l))
 
-pub reached-start : (file runs measured flags conc flow rows totals : List ℕ) (p : Progress) → length runs ≡ mostDays → length measured ≡ mostDays → flags ≡ replicate mostHours 0
+pub reached-start : (file runs measured states flags conc flow rows totals : List ℕ) (p : Progress) → length runs ≡ mostDays → length measured ≡ mostDays → length states ≡ mostHours → flags ≡ replicate mostHours 0
     → rows ≡ noRows → totals ≡ replicate totalCells 0
-    → conc ≡ table (λ h. 0) mostHours → flow ≡ table (λ h. 0) mostHours → p ≡ atStart → Reached file p (inOpen runs measured flags conc flow) (inDone rows totals)
+    → conc ≡ table (λ h. 0) mostHours → flow ≡ table (λ h. 0) mostHours → p ≡ atStart → Reached file p (inOpen runs measured states flags conc flow) (inDone rows totals)
 unfolding fine outcome recordsOf rowsOf totalsOf totalOf sumOf concentrationCells flowCells cells noRows
-reached-start file runs measured flags conc flow rows totals p rl ml g ol tl c f q =
-    let kept : Kept (Between []) (atStart .view) (atStart .sums) (inOpen runs measured flags conc flow) (inDone rows totals) =
+reached-start file runs measured states flags conc flow rows totals p rl ml sl g ol tl c f q =
+    let kept : Kept (Between []) (atStart .view) (atStart .sums) (inOpen runs measured states flags conc flow) (inDone rows totals) =
     record {
       view = view-start;
       lines = omega arith;
@@ -83,6 +83,7 @@ reached-start file runs measured flags conc flow rows totals p rl ml g ol tl c f
           record {
             runs = rl;
             measured = ml;
+            states = sl;
             flags = ap length g ∙ length-replicate {A = ℕ} mostHours 0;
             concentrations = ap length c ∙ table-length (λ h. 0) mostHours;
             flows = ap length f ∙ table-length (λ h. 0) mostHours;

@@ -11,6 +11,8 @@ use borrow.Author.Tests.{eq-eqb, ne-eqb}
 use Rattle.law.specs.Numbers.{hoursOfDay}
 use Rattle.law.specs.Words.{pick, table}
 use Rattle.law.proofs.Tabled.{table-at}
+use Rattle.reading.specs.declared.Hour.the-variants.{Missing, Stopped}
+use Rattle.reading.specs.Reading.{hourBy, stateIn}
 use Rattle.rules.specs.declared.Head.{Head}
 use Rattle.rules.specs.declared.Pair.{Pair}
 use Rattle.rules.specs.declared.Survey.{Survey}
@@ -133,18 +135,18 @@ module _ (x : Line) (s : Survey) (h : ℕ) where
 
 -- ---- a measured bit is state 2, and without it nothing stands
 state-measured : (runs measured : List ℕ) (h : ℕ) → runsAt measured h ≡ true → stateAt runs measured h ≡ 2
-unfolding stateAt stateOf runsAt pick
+unfolding stateAt stateOf stateIn hourBy runsAt pick
 state-measured runs measured h t = rw t
 
-state-other : (runs measured : List ℕ) (h : ℕ) → runsAt measured h ≡ false → stateAt runs measured h ≡ pick (runsAt runs h) 1 0
-unfolding stateAt stateOf runsAt pick
+state-other : (runs measured : List ℕ) (h : ℕ) → runsAt measured h ≡ false → stateAt runs measured h ≡ stateIn (pick (runsAt runs h) Missing Stopped)
+unfolding stateAt stateOf hourBy runsAt pick
 state-other runs measured h t = rw t
 
 pub measured-slot : (ds : List Day) (h : ℕ) → runsAt (measuredMasks ds) h ≡ true → getD (slotsOf ds) h stopped ≡ valid (pairIs ds h)
 measured-slot ds h t = slot-valid ds h (state-measured (runMasks ds) (measuredMasks ds) h t)
 
-nothing-by : (es ps : List Survey) (h : ℕ) (p : Pair) (b : Bool) → inCell (replaced es ps h (slotIn (pick b 1 0) p)) ≡ zeroes
-unfolding slotIn pick replaced inCell
+nothing-by : (es ps : List Survey) (h : ℕ) (p : Pair) (b : Bool) → inCell (replaced es ps h (slotIn (stateIn (pick b Missing Stopped)) p)) ≡ zeroes
+unfolding slotIn stateIn pick replaced inCell
 nothing-by es ps h p true = refl
 nothing-by es ps h p false = refl
 

@@ -25,7 +25,7 @@ use Rattle.rules.specs.Fill.{Values, zeroes}
 use Rattle.rules.specs.Grams.{valuesOf}
 use Rattle.rules.specs.Judge.{fine, judgeHours}
 use Rattle.rules.specs.Walk.{Between, Inside, viewOf, begun, withDay, withEnforcement, withPlant, withBatch}
-use Rattle.day.specs.Day.{concentrationAt, flowAt}
+use Rattle.day.specs.Day.{concentrationAt, flowAt, hourState}
 use Rattle.day.proofs.Laws.{PairAccepted, day-accepted, concentration-blank, flow-blank, concentration-most, flow-most}
 use Rattle.walk.specs.declared.books.Sums.{Sums}
 use Rattle.walk.specs.declared.take.Taken.{Taken}
@@ -43,18 +43,25 @@ use Rattle.walk.proofs.Steps.{begun-books, day-books, enforcement-books
 books-as : (x : Line) {s t : Sums} {o p : Open} → LineBooks x s o → t ≡ s → p ≡ o → LineBooks x t p
 books-as x k a b = rw (a, b) k
 
-open-is : (a b c e f a' b' c' e' f' : List ℕ) → a ≡ a' → b ≡ b' → c ≡ c' → e ≡ e' → f ≡ f' → inOpen a b c e f ≡ inOpen a' b' c' e' f'
-open-is a b c e f a' b' c' e' f' p q r s t = cc
+open-is : (a b c e f g a' b' c' e' f' g' : List ℕ) → a ≡ a' → b ≡ b' → c ≡ c' → e ≡ e' → f ≡ f' → g ≡ g' → inOpen a b c e f g ≡ inOpen a' b' c' e' f' g'
+open-is a b c e f g a' b' c' e' f' g' p q r s t u = cc
 
-long-as : {o : Open} (a b c e f : List ℕ) → Long o → length a ≡ length (o .runs) → length b ≡ length (o .measured) → length c ≡ length (o .flags)
-    → length e ≡ length (o .concentrations) → length f ≡ length (o .flows) → Long (inOpen a b c e f)
-long-as a b c e f l p q r s t =
-    record { runs = p ∙ l .runs; measured = q ∙ l .measured; flags = r ∙ l .flags; concentrations = s ∙ l .concentrations; flows = t ∙ l .flows }
+long-as : {o : Open} (a b c e f g : List ℕ) → Long o → length a ≡ length (o .runs) → length b ≡ length (o .measured) → length c ≡ length (o .states) → length e ≡ length (o .flags)
+    → length f ≡ length (o .concentrations) → length g ≡ length (o .flows) → Long (inOpen a b c e f g)
+long-as a b c e f g l p q r s t u =
+    record {
+      runs = p ∙ l .runs;
+      measured = q ∙ l .measured;
+      states = r ∙ l .states;
+      flags = s ∙ l .flags;
+      concentrations = t ∙ l .concentrations;
+      flows = u ∙ l .flows;
+    }
 
 -- ---- a head
 pub kept-head : (done : List Line) (v : View) (s : Sums) (h : Head) (o : Open) (d : Done) (flags' conc' flow' : List ℕ) (r : Taken)
     → Kept (Between done) v s o d → h .days ≤ mostDays → (1 ≤ h .pollutant) × (h .pollutant ≤ totalCells) → length done < mostLines
-    → HeadTaken v s h (o .flags) (o .concentrations) (o .flows) flags' conc' flow' r → Kept (Inside (begun h) done) (r .view) (r .sums) (inOpen (o .runs) (o .measured) flags' conc' flow') d
+    → HeadTaken v s h (o .flags) (o .concentrations) (o .flows) flags' conc' flow' r → Kept (Inside (begun h) done) (r .view) (r .sums) (inOpen (o .runs) (o .measured) (o .states) flags' conc' flow') d
 kept-head done v s h o d flags' conc' flow' r k days p room t =
     let b = k .books in
     let l = k .long in
@@ -67,8 +74,8 @@ kept-head done v s h o d flags' conc' flow' r k days p room t =
       view = t .view ∙ ap (λ (u : View). afterHead u h) (k .view) ∙ view-head done h;
       lines = omega arith;
       done = k .done;
-      long = record { runs = l .runs; measured = l .measured; flags = ap length f ∙ n; concentrations = ap length c ∙ n; flows = ap length w ∙ n };
-      books = books-as (begun h) (begun-books h (o .runs) (o .measured) days p) (t .sums) (open-is _ _ _ _ _ _ _ _ _ _ refl refl f c w);
+      long = record { runs = l .runs; measured = l .measured; states = l .states; flags = ap length f ∙ n; concentrations = ap length c ∙ n; flows = ap length w ∙ n };
+      books = books-as (begun h) (begun-books h (o .runs) (o .measured) (o .states) days p) (t .sums) (open-is _ _ _ _ _ _ _ _ _ _ _ _ refl refl refl f c w);
     }
 
 -- ---- a record of the open line: the lines that are done stay
@@ -101,27 +108,30 @@ module _ (d : Day) (fine-hours : judgeHours d ≡ fine) (k : ℕ) (l : k < 24) w
       value-by d k (λ v. v .l) (flowAt d k) refl (λ e. day-accepted d fine-hours k l e .flow-is) (flow-blank d k)
       (eqb (bit k (d .masks .measured)) 1) (eqb (bit k (d .masks .run)) 1) refl
 
-pub kept-day : (x : Line) (done : List Line) (bytes : List ℕ) (v : View) (s : Sums) (o : Open) (e : Done) (runs' measured' conc' flow' : List ℕ) (r : Taken)
+pub kept-day : (x : Line) (done : List Line) (bytes : List ℕ) (v : View) (s : Sums) (o : Open) (e : Done) (runs' measured' states' conc' flow' : List ℕ) (r : Taken)
     → Kept (Inside x done) v s o e → length (x .days) < x .head .days → masksOf bytes .day ≡ length (x .days)
-    → DayTaken bytes v s (masksOf bytes) (o .runs) (o .measured) (o .concentrations) (o .flows) runs' measured' conc' flow' r → r .fault .number ≡ 0 → judgeHours (dayOf bytes) ≡ fine
-    → Kept (Inside (withDay x (dayOf bytes)) done) (r .view) (r .sums) (inOpen runs' measured' (o .flags) conc' flow') e
+    → DayTaken bytes v s (masksOf bytes) (o .runs) (o .measured) (o .states) (o .concentrations) (o .flows) runs' measured' states' conc' flow' r → r .fault .number ≡ 0 → judgeHours (dayOf bytes) ≡ fine
+    → Kept (Inside (withDay x (dayOf bytes)) done) (r .view) (r .sums) (inOpen runs' measured' states' (o .flags) conc' flow') e
 unfolding dayOf
-kept-day x done bytes v s o e runs' measured' conc' flow' r k more turn t ok f =
+kept-day x done bytes v s o e runs' measured' states' conc' flow' r k more turn t ok f =
     let d = dayOf bytes in
     let n = length (x .days) in
     let m = masksOf bytes in
     let cv = concentrationAt d in
     let lv = flowAt d in
+    let sv = hourState d in
     let er : runs' ≡ set (o .runs) n (m .run) = t .runsNow ok ∙ ap (λ (i : ℕ). set (o .runs) i (m .run)) turn in
     let em : measured' ≡ set (o .measured) n (m .measured) = t .measuredNow ok ∙ ap (λ (i : ℕ). set (o .measured) i (m .measured)) turn in
+    let es : states' ≡ putFrom sv hoursOfDay (hoursOfDay * n) (o .states) = t .statesNow ok ∙ ap (λ (i : ℕ). putFrom sv hoursOfDay (hoursOfDay * i) (o .states)) turn in
     let ec : conc' ≡ putFrom cv hoursOfDay (hoursOfDay * n) (o .concentrations) = t .concNow ok ∙ ap (λ (i : ℕ). putFrom cv hoursOfDay (hoursOfDay * i) (o .concentrations)) turn in
     let el : flow' ≡ putFrom lv hoursOfDay (hoursOfDay * n) (o .flows) = t .flowNow ok ∙ ap (λ (i : ℕ). putFrom lv hoursOfDay (hoursOfDay * i) (o .flows)) turn in
     let books = day-books x d (k .books) more cv lv (day-c d f) (day-l d f) (λ i l. concentration-most d i) (λ i l. flow-most d i) (k .long) in
     kept-line x (withDay x d) done k (t .view ok ∙ ap (λ (w : View). afterDay w m) (k .view) ∙ view-day x done d)
-    (long-as _ _ _ _ _ (k .long) (ap length er ∙ length-set (o .runs) n (m .run)) (ap length em ∙ length-set (o .measured) n (m .measured)) refl
+    (long-as _ _ _ _ _ _ (k .long) (ap length er ∙ length-set (o .runs) n (m .run)) (ap length em ∙ length-set (o .measured) n (m .measured))
+    (ap length es ∙ put-length sv hoursOfDay (hoursOfDay * n) (o .states) (omega (arith, k .books .period, k .long .states))) refl
     (ap length ec ∙ put-length cv hoursOfDay (hoursOfDay * n) (o .concentrations) (omega (arith, k .books .period, k .long .concentrations)))
     (ap length el ∙ put-length lv hoursOfDay (hoursOfDay * n) (o .flows) (omega (arith, k .books .period, k .long .flows))))
-    (books-as (withDay x d) books (t .sums) (open-is _ _ _ _ _ _ _ _ _ _ er em refl ec el))
+    (books-as (withDay x d) books (t .sums) (open-is _ _ _ _ _ _ _ _ _ _ _ _ er em es refl ec el))
 
 -- ---- surveys: an accepted pair's kept values are its values
 survey-c : (t : Survey) → PairAccepted (t .pair) → surveyC t ≡ valuesOf (t .pair) .c
@@ -178,18 +188,18 @@ module _ (x : Line) (done : List Line) (v : View) (s : Sums) (t : Survey) (o : O
 
     -- with other flags and other values at one hour the lists are as long as before
     long-survey : (flags' conc' flow' : List ℕ) (a b : ℕ) → length flags' ≡ length (o .flags) → conc' ≡ replacedCell here (t .hour) a (o .concentrations) → flow' ≡ replacedCell here (t .hour) b (o .flows)
-        → Long (inOpen (o .runs) (o .measured) flags' conc' flow')
+        → Long (inOpen (o .runs) (o .measured) (o .states) flags' conc' flow')
     long-survey flags' conc' flow' a b f c l =
-        long-as _ _ _ _ _ (k .long) refl refl f (ap length c ∙ pick-length here (o .concentrations) (t .hour) a) (ap length l ∙ pick-length here (o .flows) (t .hour) b)
+        long-as _ _ _ _ _ _ (k .long) refl refl refl f (ap length c ∙ pick-length here (o .concentrations) (t .hour) a) (ap length l ∙ pick-length here (o .flows) (t .hour) b)
 
     pub kept-enforcement : (flags' conc' flow' : List ℕ) (r : Taken) → x .plant ≡ [] → EnforcementTaken v s t here (o .flags) (o .concentrations) (o .flows) flags' conc' flow' r
-        → Kept (Inside (withEnforcement x t) done) (r .view) (r .sums) (inOpen (o .runs) (o .measured) flags' conc' flow') d
+        → Kept (Inside (withEnforcement x t) done) (r .view) (r .sums) (inOpen (o .runs) (o .measured) (o .states) flags' conc' flow') d
     kept-enforcement flags' conc' flow' r none e =
         let books = enforcement-books x t within (k .books) all-days none room (most-c t ok) (most-l t ok) hour in
         kept-line x (withEnforcement x t) done k (e .view ∙ ap (λ (w : View). afterEnforcement w (t .hour)) (k .view) ∙ view-enforcement x done t)
         (long-survey flags' conc' flow' _ _ (ap length (e .flagsNow) ∙ length-set (o .flags) (t .hour) 1) (e .put .concentrations) (e .put .flows))
         (books-as (withEnforcement x t) books (e .sums ∙ stands (e .weighed) (e .put .weighs))
-        (open-is _ _ _ _ _ _ _ _ _ _ refl refl (e .flagsNow) (e .put .concentrations ∙ cell-c (o .concentrations)) (e .put .flows ∙ cell-l (o .flows))))
+        (open-is _ _ _ _ _ _ _ _ _ _ _ _ refl refl refl (e .flagsNow) (e .put .concentrations ∙ cell-c (o .concentrations)) (e .put .flows ∙ cell-l (o .flows))))
 
     -- a flag is 1 where an enforcement survey stands
     flag-is : getD (o .flags) (t .hour) 0 ≡ flagAt (x .enforcement) (t .hour)
@@ -197,7 +207,7 @@ module _ (x : Line) (done : List Line) (v : View) (s : Sums) (t : Survey) (o : O
 
     module _ (conc' flow' : List ℕ) (r : Taken) (e : PlantTaken v s t here (o .flags) (o .concentrations) (o .flows) conc' flow' r) where
       abbrev after : Open
-      after = inOpen (o .runs) (o .measured) (o .flags) conc' flow'
+      after = inOpen (o .runs) (o .measured) (o .states) (o .flags) conc' flow'
 
       plant-view : r .view ≡ viewOf (Inside (withPlant x t) done)
       plant-view = e .view ∙ ap (λ (w : View). afterPlant w (t .hour)) (k .view) ∙ view-plant x done t
@@ -207,15 +217,15 @@ module _ (x : Line) (done : List Line) (v : View) (s : Sums) (t : Survey) (o : O
           let es : r .sums ≡ s = e .sums ∙ ap (withSurvey s) (e .put .weighs ∙ sym (pick-true _ _ _ _ q refl)) ∙ adds-nothing s in
           let ec : conc' ≡ o .concentrations = e .put .concentrations ∙ sym (pick-true _ _ _ _ q refl) in
           let el : flow' ≡ o .flows = e .put .flows ∙ sym (pick-true _ _ _ _ q refl) in
-          kept-line x (withPlant x t) done k plant-view (long-as _ _ _ _ _ (k .long) refl refl refl (ap length ec) (ap length el))
-          (books-as (withPlant x t) (beaten-books x t within (k .books) all-days room h) es (open-is _ _ _ _ _ _ _ _ _ _ refl refl refl ec el))
+          kept-line x (withPlant x t) done k plant-view (long-as _ _ _ _ _ _ (k .long) refl refl refl refl (ap length ec) (ap length el))
+          (books-as (withPlant x t) (beaten-books x t within (k .books) all-days room h) es (open-is _ _ _ _ _ _ _ _ _ _ _ _ refl refl refl refl ec el))
       plant-by false h q =
           let es : r .sums ≡ withSurvey s (standing (valuesOf (t .pair) .c) (valuesOf (t .pair) .l)) = e .sums ∙ stands (e .weighed) (e .put .weighs ∙ sym (pick-false _ _ _ _ q refl)) in
           let ec : conc' ≡ replacedCell here (t .hour) (valuesOf (t .pair) .c) (o .concentrations) = e .put .concentrations ∙ sym (pick-false _ _ _ _ q refl) ∙ cell-c (o .concentrations) in
           let el : flow' ≡ replacedCell here (t .hour) (valuesOf (t .pair) .l) (o .flows) = e .put .flows ∙ sym (pick-false _ _ _ _ q refl) ∙ cell-l (o .flows) in
           let books = plant-books x t within (k .books) all-days room h (most-c t ok) (most-l t ok) in
           kept-line x (withPlant x t) done k plant-view (long-survey (o .flags) conc' flow' _ _ refl ec el)
-          (books-as (withPlant x t) books es (open-is _ _ _ _ _ _ _ _ _ _ refl refl refl ec el))
+          (books-as (withPlant x t) books es (open-is _ _ _ _ _ _ _ _ _ _ _ _ refl refl refl refl ec el))
 
       pub kept-plant : Kept (Inside (withPlant x t) done) (r .view) (r .sums) after d
       unfolding flagAt

@@ -31,6 +31,8 @@ use Rattle.line.specs.Put.{standing}
 use Rattle.walk.specs.Views.{openedSums, withSurvey, withFuel}
 use Rattle.walk.specs.Books.{putFrom, inCell, valuesAt, flagAt, Open, inOpen, CellsKept, SurveysKept, LineBooks, Long}
 use Rattle.walk.proofs.Hours.{begun-zero, past-zero, day-before, day-own, enforcement-other, plant-other, plant-second, enforcement-own, plant-own, measured-slot, unmeasured}
+use Rattle.walk.proofs.Masks.{states-day}
+use Rattle.day.specs.Day.{hourState}
 use Rattle.hours.proofs.Laws.{pairIs}
 
 -- ---- a head: nothing is taken in yet
@@ -39,12 +41,12 @@ begun-cells h f most z =
     let none : (k : ℕ) → f (valuesAt (begun h) k) ≡ 0 = λ k. ap f (begun-zero h k) ∙ z in
     record { hold = table-same (λ k. 0) (λ k. f (valuesAt (begun h) k)) mostHours (λ k m. sym (none k)); within = λ k. omega (arith, none k) }
 
-pub begun-books : (h : Head) (runs measured : List ℕ) → h .days ≤ mostDays → (1 ≤ h .pollutant) × (h .pollutant ≤ totalCells)
-    → LineBooks (begun h) (openedSums h) (inOpen runs measured (table (λ k. 0) mostHours) (table (λ k. 0) mostHours) (table (λ k. 0) mostHours))
-unfolding begun runMasks measuredMasks surveys surveyed besides sulphurOf ashOf sumOf largest flagAt hasSurvey pick zeroes
-begun-books h runs measured l p =
+pub begun-books : (h : Head) (runs measured states : List ℕ) → h .days ≤ mostDays → (1 ≤ h .pollutant) × (h .pollutant ≤ totalCells)
+    → LineBooks (begun h) (openedSums h) (inOpen runs measured states (table (λ k. 0) mostHours) (table (λ k. 0) mostHours) (table (λ k. 0) mostHours))
+unfolding begun table runMasks measuredMasks surveys surveyed besides sulphurOf ashOf sumOf largest flagAt hasSurvey pick zeroes
+begun-books h runs measured states l p =
     record {
-      masks = record { runsKept = refl; measuredKept = refl };
+      masks = record { runsKept = refl; measuredKept = refl; statesKept = refl };
       concentrations = begun-cells h (λ v. v .c) mostConcentration refl;
       flows = begun-cells h (λ v. v .l) mostFlow refl;
       surveys = record { flagged = refl; past = λ k m. table-zero mostHours k; counted = refl; weighed = refl; most = omega arith };
@@ -99,7 +101,7 @@ module _ (x : Line) (d : Day) {s : Sums} {o : Open} (k : LineBooks x s o) (more 
   pub day-books : (cv lv : ℕ → ℕ)
       → ((i : ℕ) → i < 24 → inCell (slotOf d i) .c ≡ cv i) → ((i : ℕ) → i < 24 → inCell (slotOf d i) .l ≡ lv i)
       → ((i : ℕ) → i < 24 → cv i ≤ mostConcentration) → ((i : ℕ) → i < 24 → lv i ≤ mostFlow) → Long o
-      → LineBooks (withDay x d) s (inOpen (set (o .runs) n (d .masks .run)) (set (o .measured) n (d .masks .measured)) (o .flags) (putFrom cv 24 (hoursOfDay * n) (o .concentrations)) (putFrom lv 24 (hoursOfDay * n) (o .flows)))
+      → LineBooks (withDay x d) s (inOpen (set (o .runs) n (d .masks .run)) (set (o .measured) n (d .masks .measured)) (putFrom (hourState d) 24 (hoursOfDay * n) (o .states)) (o .flags) (putFrom cv 24 (hoursOfDay * n) (o .concentrations)) (putFrom lv 24 (hoursOfDay * n) (o .flows)))
   unfolding runMasks measuredMasks withDay surveys surveyed zeroes
   day-books cv lv cs ls cm lm long =
       record {
@@ -107,6 +109,9 @@ module _ (x : Line) (d : Day) {s : Sums} {o : Open} (k : LineBooks x s o) (more 
             record {
               runsKept = take-suc-set (o .runs) n (d .masks .run) (omega (arith, k .period, long .runs)) ∙ ap (λ (t : List ℕ). t ++ (d .masks .run ∷ [])) (k .masks .runsKept);
               measuredKept = take-suc-set (o .measured) n (d .masks .measured) (omega (arith, k .period, long .measured)) ∙ ap (λ (t : List ℕ). t ++ (d .masks .measured ∷ [])) (k .masks .measuredKept);
+              statesKept =
+                  states-day (o .runs) (o .measured) n (d .masks .run) (d .masks .measured) (omega (arith, k .period, long .runs)) (omega (arith, k .period, long .measured))
+                  (o .states) (omega (arith, k .period, long .states)) (k .masks .statesKept);
             };
         concentrations = day-cells (λ w. w .c) mostConcentration cv (o .concentrations) refl cs cm (k .concentrations);
         flows = day-cells (λ w. w .l) mostFlow lv (o .flows) refl ls lm (k .flows);
@@ -198,7 +203,7 @@ withSurveys x es ps = record { head = x .head; days = x .days; enforcement = es;
 survey-books : (x : Line) (es ps : List Survey) (t' : Sums) {t : Sums} {o : Open} {flags' conc' flow' : List ℕ} → LineBooks x t o
     → length (x .days) ≡ x .head .days → length es + length ps ≤ mostSurveys → t' .sulphur ≡ t .sulphur → t' .ash ≡ t .ash → t' .used ≡ t .used
     → CellsKept (λ h. valuesAt (withSurveys x es ps) h .c) mostConcentration conc' → CellsKept (λ h. valuesAt (withSurveys x es ps) h .l) mostFlow flow'
-    → SurveysKept (x .head .days) es (surveyed (withSurveys x es ps)) (t' .surveyed) (t' .weight) flags' → LineBooks (withSurveys x es ps) t' (inOpen (o .runs) (o .measured) flags' conc' flow')
+    → SurveysKept (x .head .days) es (surveyed (withSurveys x es ps)) (t' .surveyed) (t' .weight) flags' → LineBooks (withSurveys x es ps) t' (inOpen (o .runs) (o .measured) (o .states) flags' conc' flow')
 unfolding surveys
 survey-books x es ps t' k all-days few s a u c l y =
     record {
@@ -255,7 +260,7 @@ module _ (x : Line) (s : Survey) (within : s .hour < mostHours) where
 
       pub enforcement-books : s .hour < hoursOfDay * x .head .days
           → LineBooks (withEnforcement x s) (withSurvey t (standing (valuesOf (s .pair) .c) (valuesOf (s .pair) .l)))
-          (inOpen (o .runs) (o .measured) (set (o .flags) (s .hour) 1)
+          (inOpen (o .runs) (o .measured) (o .states) (set (o .flags) (s .hour) 1)
           (pick (runsAt (measuredMasks (x .days)) (s .hour)) (set (o .concentrations) (s .hour) (valuesOf (s .pair) .c)) (o .concentrations))
           (pick (runsAt (measuredMasks (x .days)) (s .hour)) (set (o .flows) (s .hour) (valuesOf (s .pair) .l)) (o .flows)))
       unfolding withEnforcement surveys
@@ -322,7 +327,7 @@ module _ (x : Line) (s : Survey) (within : s .hour < mostHours) where
           }
 
       pub plant-books : LineBooks (withPlant x s) (withSurvey t (standing (valuesOf (s .pair) .c) (valuesOf (s .pair) .l)))
-          (inOpen (o .runs) (o .measured) (o .flags)
+          (inOpen (o .runs) (o .measured) (o .states) (o .flags)
           (pick (runsAt (measuredMasks (x .days)) (s .hour)) (set (o .concentrations) (s .hour) (valuesOf (s .pair) .c)) (o .concentrations))
           (pick (runsAt (measuredMasks (x .days)) (s .hour)) (set (o .flows) (s .hour) (valuesOf (s .pair) .l)) (o .flows)))
       unfolding withPlant surveys

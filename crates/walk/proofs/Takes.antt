@@ -41,7 +41,7 @@ use Rattle.walk.proofs.Masks.{runs-kept, states-kept, first-kept}
 use Rattle.walk.proofs.Steps.{surveyed-most}
 use Rattle.rules.proofs.Method.{manual-surveyed}
 use Rattle.walk.specs.Closing.{gramsIn}
-use Rattle.fills.specs.Period.{periodStates}
+use Rattle.hours.specs.States.{periodStates}
 use Rattle.fuel.specs.Fuel.{fuelFigure, ashOf, InRange}
 use Rattle.rules.specs.OnPaper.{OnPaper}
 use Rattle.fuel.proofs.Figures.{line-figure, line-wanting, grams-fit}
@@ -128,12 +128,12 @@ module _ (bytes : List ℕ) (v : View) (s : Sums) (o : Open) (d : Done) where
       (λ done y. (y .books .usedMost, y .long .concentrations, y .long .flows)) (k .kept)
 
   pub took-head : (stand : Stand) (r : Record) (h : Head) (flags' conc' flow' : List ℕ) (t : Taken) → r ≡ OfHead h → Ready stand bytes r v s o d
-      → HeadTaken v s h (o .flags) (o .concentrations) (o .flows) flags' conc' flow' t → Took stand bytes r t (inOpen (o .runs) (o .measured) flags' conc' flow') d
+      → HeadTaken v s h (o .flags) (o .concentrations) (o .flows) flags' conc' flow' t → Took stand bytes r t (inOpen (o .runs) (o .measured) (o .states) flags' conc' flow') d
   unfolding taken takenBetween judgeReadings
   took-head stand r h flags' conc' flow' t q k e =
       let ok = head-ok v (runsOf stand) h (judged stand r (OfHead h) q k) in
       took-other stand r (OfHead h) t _ d q (e .faults) refl
-      (between-lines stand v (k .kept .view) (ok .outside) (λ a. Kept a v s o d → Kept (taken a bytes (OfHead h)) (t .view) (t .sums) (inOpen (o .runs) (o .measured) flags' conc' flow') d)
+      (between-lines stand v (k .kept .view) (ok .outside) (λ a. Kept a v s o d → Kept (taken a bytes (OfHead h)) (t .view) (t .sums) (inOpen (o .runs) (o .measured) (o .states) flags' conc' flow') d)
       (λ done y. kept-head done v s h o d flags' conc' flow' t y (ok .days-most) (ok .pollutant-least, ok .pollutant-most) (lines-left done v (y .view) (ok .room)) e) (k .kept))
 
   -- ---- a day
@@ -142,20 +142,20 @@ module _ (bytes : List ℕ) (v : View) (s : Sums) (o : Open) (d : Done) where
   unfolding viewOf
   day-facts x done m e l n = (omega (arith, ap (λ (w : View). w .days) e, ap (λ (w : View). w .head .days) e), n ∙ ap (λ (w : View). w .days) e)
 
-  pub took-day : (stand : Stand) (r : Record) (m : Masks) (runs' measured' conc' flow' : List ℕ) (t : Taken) → r ≡ OfDay m → Ready stand bytes r v s o d
-      → DayTaken bytes v s m (o .runs) (o .measured) (o .concentrations) (o .flows) runs' measured' conc' flow' t → Took stand bytes r t (inOpen runs' measured' (o .flags) conc' flow') d
+  pub took-day : (stand : Stand) (r : Record) (m : Masks) (runs' measured' states' conc' flow' : List ℕ) (t : Taken) → r ≡ OfDay m → Ready stand bytes r v s o d
+      → DayTaken bytes v s m (o .runs) (o .measured) (o .states) (o .concentrations) (o .flows) runs' measured' states' conc' flow' t → Took stand bytes r t (inOpen runs' measured' states' (o .flags) conc' flow') d
   unfolding taken takenInside judgeReadings
-  took-day stand r m runs' measured' conc' flow' t q k e =
+  took-day stand r m runs' measured' states' conc' flow' t q k e =
       let ok = day-ok v (runsOf stand) m (judged stand r (OfDay m) q k) in
       let n = day-in bytes m (sym (k .read) ∙ q) .1 in
       rw q (record {
         faults = e .faults;
         stays = λ z.
-            in-line stand v (k .kept .view) (ok .inside) (λ a. Kept a v s o d → Kept (taken a bytes (OfDay m)) (t .view) (t .sums) (inOpen runs' measured' (o .flags) conc' flow') d)
+            in-line stand v (k .kept .view) (ok .inside) (λ a. Kept a v s o d → Kept (taken a bytes (OfDay m)) (t .view) (t .sums) (inOpen runs' measured' states' (o .flags) conc' flow') d)
             (λ x done y.
             let f = day-facts x done m (y .view) (ok .room) (ok .turn) in
-            kept-day x done bytes v s o d runs' measured' conc' flow' t y (f .0) (sym (ap (λ (w : Masks). w .day) n) ∙ f .1)
-            (subst (λ (w : Masks). DayTaken bytes v s w (o .runs) (o .measured) (o .concentrations) (o .flows) runs' measured' conc' flow' t) n e) z
+            kept-day x done bytes v s o d runs' measured' states' conc' flow' t y (f .0) (sym (ap (λ (w : Masks). w .day) n) ∙ f .1)
+            (subst (λ (w : Masks). DayTaken bytes v s w (o .runs) (o .measured) (o .states) (o .concentrations) (o .flows) runs' measured' states' conc' flow' t) n e) z
             (sym (e .faults) ∙ stands-zero (t .fault) (subst Stands (sym (e .faults)) (readings-stand bytes (OfDay m))) z)) (k .kept);
       })
 
@@ -185,24 +185,24 @@ module _ (bytes : List ℕ) (v : View) (s : Sums) (o : Open) (d : Done) where
   no-plant x done e z = empty-of (x .plant) (sym (survey-count (x .plant)) ∙ sym (ap (λ (w : View). w .plant .count) e) ∙ z)
 
   pub took-enforcement : (stand : Stand) (r : Record) (t : Survey) (flags' conc' flow' : List ℕ) (u : Taken) → r ≡ OfEnforcement t → Ready stand bytes r v s o d
-      → EnforcementTaken v s t (runsAt (o .measured) (t .hour)) (o .flags) (o .concentrations) (o .flows) flags' conc' flow' u → Took stand bytes r u (inOpen (o .runs) (o .measured) flags' conc' flow') d
+      → EnforcementTaken v s t (runsAt (o .measured) (t .hour)) (o .flags) (o .concentrations) (o .flows) flags' conc' flow' u → Took stand bytes r u (inOpen (o .runs) (o .measured) (o .states) flags' conc' flow') d
   unfolding taken takenInside judgeReadings
   took-enforcement stand r t flags' conc' flow' u q k e =
       let ok = enforcement-ok v (runsOf stand) t (judged stand r (OfEnforcement t) q k) in
       took-other stand r (OfEnforcement t) u _ d q (e .faults) refl
-      (in-line stand v (k .kept .view) (ok .1 .inside) (λ a. Kept a v s o d → Kept (taken a bytes (OfEnforcement t)) (u .view) (u .sums) (inOpen (o .runs) (o .measured) flags' conc' flow') d)
+      (in-line stand v (k .kept .view) (ok .1 .inside) (λ a. Kept a v s o d → Kept (taken a bytes (OfEnforcement t)) (u .view) (u .sums) (inOpen (o .runs) (o .measured) (o .states) flags' conc' flow') d)
       (λ x done y.
       let f = survey-facts x done t (y .view) (ok .1) in
       kept-enforcement x done v s t o d y (f .hour) (f .all-days) (f .room) (f .pair) flags' conc' flow' u (no-plant x done (y .view) (ok .0))
       (subst (λ (b : Bool). EnforcementTaken v s t b (o .flags) (o .concentrations) (o .flows) flags' conc' flow' u) (measured-here x done t y f) e)) (k .kept))
 
   pub took-plant : (stand : Stand) (r : Record) (t : Survey) (conc' flow' : List ℕ) (u : Taken) → r ≡ OfPlant t → Ready stand bytes r v s o d
-      → PlantTaken v s t (runsAt (o .measured) (t .hour)) (o .flags) (o .concentrations) (o .flows) conc' flow' u → Took stand bytes r u (inOpen (o .runs) (o .measured) (o .flags) conc' flow') d
+      → PlantTaken v s t (runsAt (o .measured) (t .hour)) (o .flags) (o .concentrations) (o .flows) conc' flow' u → Took stand bytes r u (inOpen (o .runs) (o .measured) (o .states) (o .flags) conc' flow') d
   unfolding taken takenInside judgeReadings
   took-plant stand r t conc' flow' u q k e =
       let ok = plant-ok v (runsOf stand) t (judged stand r (OfPlant t) q k) in
       took-other stand r (OfPlant t) u _ d q (e .faults) refl
-      (in-line stand v (k .kept .view) (ok .inside) (λ a. Kept a v s o d → Kept (taken a bytes (OfPlant t)) (u .view) (u .sums) (inOpen (o .runs) (o .measured) (o .flags) conc' flow') d)
+      (in-line stand v (k .kept .view) (ok .inside) (λ a. Kept a v s o d → Kept (taken a bytes (OfPlant t)) (u .view) (u .sums) (inOpen (o .runs) (o .measured) (o .states) (o .flags) conc' flow') d)
       (λ x done y.
       let f = survey-facts x done t (y .view) ok in
       kept-plant x done v s t o d y (f .hour) (f .all-days) (f .room) (f .pair) conc' flow' u
@@ -226,12 +226,12 @@ module _ (bytes : List ℕ) (v : View) (s : Sums) (o : Open) (d : Done) where
 
   pub took-end : (stand : Stand) (r : Record) (conc' flow' : List ℕ) (d' : Done) (u : Taken) → r ≡ OfEnd → Ready stand bytes r v s o d
       → EndTaken v s (periodStates (o .runs) (o .measured) (v .head .days)) (firstMissing (o .runs) (o .measured) (v .head .days)) (o .concentrations) (o .flows) d conc' flow' d' u
-      → Took stand bytes r u (inOpen (o .runs) (o .measured) (o .flags) conc' flow') d'
+      → Took stand bytes r u (inOpen (o .runs) (o .measured) (o .states) (o .flags) conc' flow') d'
   unfolding taken takenInside judgeReadings viewOf
   took-end stand r conc' flow' d' u q k e =
       let ok = end-ok v (runsOf stand) (judged stand r OfEnd q k) in
       took-other stand r OfEnd u _ d' q (e .faults) refl
-      (in-line stand v (k .kept .view) (ok .inside) (λ a. Kept a v s o d → Kept (taken a bytes OfEnd) (u .view) (u .sums) (inOpen (o .runs) (o .measured) (o .flags) conc' flow') d')
+      (in-line stand v (k .kept .view) (ok .inside) (λ a. Kept a v s o d → Kept (taken a bytes OfEnd) (u .view) (u .sums) (inOpen (o .runs) (o .measured) (o .states) (o .flags) conc' flow') d')
       (λ x done y.
       let a : length (x .days) ≡ x .head .days = days-all x done (y .view) (ok .days-done) in
       let n : length (x .days) ≡ v .head .days = a ∙ sym (ap (λ (w : View). w .head .days) (y .view)) in
@@ -247,18 +247,19 @@ module _ (bytes : List ℕ) (v : View) (s : Sums) (o : Open) (d : Done) where
   days-lent (Inside x done) k = omega (arith, ap (λ (w : View). w .days) (k .view), k .books .days, k .books .period)
 
   pub ready-day : (stand : Stand) (r : Record) (m : Masks) → r ≡ OfDay m → Ready stand bytes r v s o d
-      → DayReady bytes v m (o .concentrations) (o .flows)
+      → DayReady bytes v m (o .states) (o .concentrations) (o .flows)
   unfolding viewOf
   ready-day stand r m q k =
       let ok = day-ok v (runsOf stand) m (judged stand r (OfDay m) q k) in
       in-line stand v (k .kept .view) (ok .inside)
-      (λ a. Kept a v s o d → DayReady bytes v m (o .concentrations) (o .flows))
+      (λ a. Kept a v s o d → DayReady bytes v m (o .states) (o .concentrations) (o .flows))
       (λ x done y.
       let e = y .view in
       let b = y .books in
       let n : v .days < mostDays = omega (arith, ok .room, ap (λ (w : View). w .head .days) e, b .period) in
       record {
         day = omega (arith, ok .turn);
+        statesLong = y .long .states;
         concLong = y .long .concentrations;
         flowLong = y .long .flows;
         days = n;
@@ -300,10 +301,11 @@ module _ (bytes : List ℕ) (v : View) (s : Sums) (o : Open) (d : Done) where
       in-line stand v (k .kept .view) (ok .inside) (λ a. Kept a v s o d → (v .batches < mostBatches) × (b .kg + v .fuel ≤ mostFuel) × (b .ash ≤ mostAsh) × (s .ash ≤ mostFuel * mostAsh))
       (λ x done y. let m = y .books .fuel in (ok .room, omega (arith, ok .fuel-most), ok .ash-most, omega (arith, m .summed, m .range .ash, m .range .kg))) (k .kept)
 
-  pub ready-end : (stand : Stand) (r : Record) → r ≡ OfEnd → Ready stand bytes r v s o d → EndReady v s (o .concentrations) (o .flows) (d .totals)
+  pub ready-end : (stand : Stand) (r : Record) → r ≡ OfEnd → Ready stand bytes r v s o d → EndReady v s (o .runs) (o .measured) (o .states) (o .concentrations) (o .flows) (d .totals)
   unfolding viewOf
   ready-end stand r q k =
-      in-line stand v (k .kept .view) (end-ok v (runsOf stand) (judged stand r OfEnd q k) .inside) (λ a. Kept a v s o d → EndReady v s (o .concentrations) (o .flows) (d .totals))
+      let ok = end-ok v (runsOf stand) (judged stand r OfEnd q k) in
+      in-line stand v (k .kept .view) (ok .inside) (λ a. Kept a v s o d → EndReady v s (o .runs) (o .measured) (o .states) (o .concentrations) (o .flows) (d .totals))
       (λ x done z.
       let e = z .view in
       let y = z .books in
@@ -313,6 +315,7 @@ module _ (bytes : List ℕ) (v : View) (s : Sums) (o : Open) (d : Done) where
       let p : v .head .pollutant ≡ x .head .pollutant = ap (λ (u : View). u .head .pollutant) e in
       record {
         days = omega (arith, ap (λ (u : View). u .head .days) e, y .period);
+        said = subst (λ (n : ℕ). take (hoursOfDay * n) (o .states) ≡ periodStates (o .runs) (o .measured) n) (days-all x done e (ok .days-done) ∙ sym (ap (λ (u : View). u .head .days) e)) (y .masks .statesKept);
         concLong = z .long .concentrations;
         flowLong = z .long .flows;
         limits = record { concentrations = cells-most (y .concentrations); flows = cells-most (y .flows) };

@@ -17,6 +17,7 @@ use Rattle.rules.specs.Fill.{Values, zeroes}
 use Rattle.rules.specs.Grams.{valuesOf, amount, surveyValues, sulphurOf}
 use Rattle.rules.specs.Row.{rowsOf, totalsOf, concentrationCells, flowCells}
 use Rattle.rules.specs.Walk.{Stand, Between, Inside, viewOf}
+use Rattle.hours.specs.States.{periodStates}
 use Rattle.fuel.specs.Fuel.{ashOf, InRange}
 use Rattle.walk.specs.declared.books.Sums.{Sums}
 
@@ -28,17 +29,19 @@ noRows = replicate mostCells 0
 abbrev pub putFrom : (ℕ → ℕ) → ℕ → ℕ → List ℕ → List ℕ
 putFrom f n from cells = take from cells ++ over f n (drop from cells)
 
--- the lists that the code keeps of the open line: the masks of its days, a flag for each hour with an enforcement survey, and both work tables
+-- the lists that the code keeps of the open line: the masks of its days, the states of its hours, a flag for each hour with an enforcement survey, and both
+-- work tables
 pub record Open : Type 0 where
   pub runs : List ℕ
   pub measured : List ℕ
+  pub states : List ℕ
   pub flags : List ℕ
   pub concentrations : List ℕ
   pub flows : List ℕ
 
-abbrev pub inOpen : List ℕ → List ℕ → List ℕ → List ℕ → List ℕ → Open
-inOpen runs measured flags concentrations flows =
-    record { runs = runs; measured = measured; flags = flags; concentrations = concentrations; flows = flows }
+abbrev pub inOpen : List ℕ → List ℕ → List ℕ → List ℕ → List ℕ → List ℕ → Open
+inOpen runs measured states flags concentrations flows =
+    record { runs = runs; measured = measured; states = states; flags = flags; concentrations = concentrations; flows = flows }
 
 -- and of the lines that are done: their rows, and the totals
 pub record Done : Type 0 where
@@ -62,10 +65,11 @@ valuesAt x h = inCell (replaced (x .enforcement) (x .plant) h (getD (slotsOf (x 
 unfoldable pub flagAt : List Survey → ℕ → ℕ
 flagAt enforcement h = pick (hasSurvey h enforcement) 1 0
 
--- the masks of the days so far
-pub record MasksKept (days : List Day) (runs measured : List ℕ) : Type 0 where
+-- the masks of the days so far, and the states of their hours
+pub record MasksKept (days : List Day) (runs measured states : List ℕ) : Type 0 where
   pub runsKept : take (length days) runs ≡ runMasks days
   pub measuredKept : take (length days) measured ≡ measuredMasks days
+  pub statesKept : take (hoursOfDay * length days) states ≡ periodStates runs measured (length days)
 
 -- one quantity of every hour, within its limit
 pub record CellsKept (value : ℕ → ℕ) (most : ℕ) (cells : List ℕ) : Type 0 where
@@ -88,7 +92,7 @@ pub record FuelKept (batches : List Batch) (sulphur ash : ℕ) : Type 0 where
 
 -- what the code holds of an open line. No survey comes before the last day
 pub record LineBooks (x : Line) (s : Sums) (o : Open) : Type 0 where
-  pub masks : MasksKept (x .days) (o .runs) (o .measured)
+  pub masks : MasksKept (x .days) (o .runs) (o .measured) (o .states)
   pub concentrations : CellsKept (λ h. valuesAt x h .c) mostConcentration (o .concentrations)
   pub flows : CellsKept (λ h. valuesAt x h .l) mostFlow (o .flows)
   pub surveys : SurveysKept (x .head .days) (x .enforcement) (surveyed x) (s .surveyed) (s .weight) (o .flags)
@@ -135,6 +139,7 @@ pub record DoneKept (lines : List Line) (d : Done) : Type 0 where
 pub record Long (o : Open) : Type 0 where
   pub runs : length (o .runs) ≡ mostDays
   pub measured : length (o .measured) ≡ mostDays
+  pub states : length (o .states) ≡ mostHours
   pub flags : length (o .flags) ≡ mostHours
   pub concentrations : length (o .concentrations) ≡ mostHours
   pub flows : length (o .flows) ≡ mostHours

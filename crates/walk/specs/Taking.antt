@@ -3,7 +3,7 @@ use Prim.Native.Nat.{ℕ, _+_, _*_, _<_, _≤_}
 use mathlib.Core.Bool.{Bool}
 use mathlib.Core.List.{List}
 use mathlib.Core.Path.{_≡_}
-use lib.ListN.{length, getD, set}
+use lib.ListN.{length, take, getD, set}
 use Rattle.law.specs.Numbers.{hoursOfDay, mostDays, mostHours, mostLines, rowCells, totalCells, mostSurveys, mostAmount, mostGrams}
 use Rattle.law.specs.Words.{over}
 use Rattle.rules.specs.declared.Head.{Head}
@@ -12,11 +12,12 @@ use Rattle.rules.specs.declared.Survey.{Survey}
 use Rattle.rules.specs.declared.Batch.{Batch}
 use Rattle.rules.specs.declared.View.{View}
 use Rattle.rules.specs.Records.{dayOf}
+use Rattle.hours.specs.States.{periodStates}
 use Rattle.line.specs.declared.surveyed.Weighed.{Weighed}
 use Rattle.line.specs.Put.{beats, SurveyPut, PlantPut}
 use Rattle.line.specs.Line.{rowIn}
 use Rattle.rules.specs.Judge.{fine, judgeHours, lineMethod}
-use Rattle.day.specs.Day.{concentrationAt, flowAt}
+use Rattle.day.specs.Day.{concentrationAt, flowAt, hourState}
 use Rattle.walk.specs.declared.books.Sums.{Sums}
 use Rattle.walk.specs.declared.take.Taken.{Taken}
 use Rattle.walk.specs.Views.{afterHead, afterDay, afterEnforcement, afterPlant, afterBatch, afterEnd, openedSums, withSurvey, withFuel}
@@ -25,8 +26,9 @@ use Rattle.fuel.specs.Fuel.{fuelFigure}
 use Rattle.walk.specs.Books.{putFrom, Done}
 
 -- what a day asks
-pub record DayReady (bytes : List ℕ) (v : View) (m : Masks) (conc flow : List ℕ) : Type 0 where
+pub record DayReady (bytes : List ℕ) (v : View) (m : Masks) (states conc flow : List ℕ) : Type 0 where
   pub day : m .day < mostDays
+  pub statesLong : length states ≡ mostHours
   pub concLong : length conc ≡ mostHours
   pub flowLong : length flow ≡ mostHours
   pub days : v .days < mostDays
@@ -52,13 +54,14 @@ pub record HeadTaken (v : View) (s : Sums) (h : Head) (flags conc flow flags' co
   pub concNow : conc' ≡ over (λ k. 0) (s .used) conc
   pub flowNow : flow' ≡ over (λ k. 0) (s .used) flow
 
--- a day: its masks and its 24 values, unless a reading is refused
-pub record DayTaken (bytes : List ℕ) (v : View) (s : Sums) (m : Masks) (runs measured conc flow runs' measured' conc' flow' : List ℕ) (r : Taken) : Type 0 where
+-- a day: its masks, its 24 states and its 24 values, unless a reading is refused
+pub record DayTaken (bytes : List ℕ) (v : View) (s : Sums) (m : Masks) (runs measured states conc flow runs' measured' states' conc' flow' : List ℕ) (r : Taken) : Type 0 where
   pub faults : r .fault ≡ judgeHours (dayOf bytes)
   pub view : r .fault .number ≡ 0 → r .view ≡ afterDay v m
   pub sums : r .sums ≡ s
   pub runsNow : r .fault .number ≡ 0 → runs' ≡ set runs (m .day) (m .run)
   pub measuredNow : r .fault .number ≡ 0 → measured' ≡ set measured (m .day) (m .measured)
+  pub statesNow : r .fault .number ≡ 0 → states' ≡ putFrom (hourState (dayOf bytes)) hoursOfDay (hoursOfDay * m .day) states
   pub concNow : r .fault .number ≡ 0 → conc' ≡ putFrom (concentrationAt (dayOf bytes)) hoursOfDay (hoursOfDay * m .day) conc
   pub flowNow : r .fault .number ≡ 0 → flow' ≡ putFrom (flowAt (dayOf bytes)) hoursOfDay (hoursOfDay * m .day) flow
 
@@ -85,9 +88,10 @@ pub record BatchTaken (v : View) (s : Sums) (b : Batch) (r : Taken) : Type 0 whe
   pub view : r .view ≡ afterBatch v (b .kg)
   pub sums : r .sums ≡ withFuel s b
 
--- what closing a line asks
-pub record EndReady (v : View) (s : Sums) (conc flow soFar : List ℕ) : Type 0 where
+-- what closing a line asks: the states are those that the masks say
+pub record EndReady (v : View) (s : Sums) (runs measured states conc flow soFar : List ℕ) : Type 0 where
   pub days : v .head .days ≤ mostDays
+  pub said : take (hoursOfDay * v .head .days) states ≡ periodStates runs measured (v .head .days)
   pub concLong : length conc ≡ mostHours
   pub flowLong : length flow ≡ mostHours
   pub limits : Limits conc flow

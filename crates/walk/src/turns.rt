@@ -81,14 +81,15 @@ fn step(
     p: Progress,
     runs: &mut [u32; 92],
     measured: &mut [u32; 92],
+    states: &mut [u8; 2208],
     flags: &mut [u32; 2208],
     conc: &mut [u32],
     flow: &mut [u32],
     rows: &mut [u64; 336],
     totals: &mut [u64; 3],
 ) -> Progress
-    requires { ⌜ Reached (now file) p (inOpen (now runs) (now measured) (now flags) (now conc) (now flow)) (inDone (now rows) (now totals)) × (p .at < length (now file)) ⌝ }
-    ensures { λ q. ⌜ Reached (now (file .entry)) q (inOpen (now (runs .exit)) (now (measured .exit)) (now (flags .exit)) (now (conc .exit)) (now (flow .exit)))
+    requires { ⌜ Reached (now file) p (inOpen (now runs) (now measured) (now states) (now flags) (now conc) (now flow)) (inDone (now rows) (now totals)) × (p .at < length (now file)) ⌝ }
+    ensures { λ q. ⌜ Reached (now (file .entry)) q (inOpen (now (runs .exit)) (now (measured .exit)) (now (states .exit)) (now (flags .exit)) (now (conc .exit)) (now (flow .exit)))
         (inDone (now (rows .exit)) (now (totals .exit)))
         × (p .at < q .at) ⌝ }
 {
@@ -114,6 +115,7 @@ fn step(
         s,
         runs,
         measured,
+        states,
         flags,
         conc,
         flow,
@@ -162,6 +164,7 @@ pub fn walk_records(
 {
     let mut runs = [0u32; 92];
     let mut measured = [0u32; 92];
+    let mut states = [0u8; 2208];
     let mut flags = [0u32; 2208];
     cells::clear_quarter(conc);
     cells::clear_quarter(flow);
@@ -172,6 +175,7 @@ pub fn walk_records(
             p,
             &mut runs,
             &mut measured,
+            &mut states,
             &mut flags,
             conc,
             flow,

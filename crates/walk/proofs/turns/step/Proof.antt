@@ -38,7 +38,7 @@ add-next c =
 
 take-in-requires : tie.Need-take-in-requires
 take-in-requires c κs =
-    let e = c .before .before .before .before .before .before .before .before in
+    let e = c .before .before .before .before .before .before .before .before .before in
     let j = e .before .before in
     let p = j .before .before .before .before .before .before .before .before .before .before .pre in
     let g = p .0 .goes (p .0 .reads (p .1)) in
@@ -47,7 +47,7 @@ take-in-requires c κs =
 moved-on-requires-2 : tie.Need-moved-on-requires-2
 moved-on-requires-2 c κs =
     let t = c .before .before .before .before in
-    let e = t .before .before .before .before .before .before .before .before .before in
+    let e = t .before .before .before .before .before .before .before .before .before .before in
     let j = e .before .before in
     let p = j .before .before .before .before .before .before .before .before .before .before .pre in
     let g = p .0 .goes (p .0 .reads (p .1)) in
@@ -56,7 +56,7 @@ moved-on-requires-2 c κs =
 returns-2 : tie.Need-returns-2
 returns-2 c =
     let t = c .before .before .before .before .before in
-    let z = t .before .before .before .before .before .before .before .before in
+    let z = t .before .before .before .before .before .before .before .before .before in
     let e = z .before in
     let j = e .before .before in
     let p = j .before .before .before .before .before .before .before .before .before .before .pre in

@@ -15,11 +15,11 @@ use Rattle.walk.proofs.turns.walk_records.Statement.{statement}
 use Rattle.walk.proofs.turns.walk_records.Tie as tie
 
 abbrev Inv-loop : tie.InvT-loop
-Inv-loop file rows₀ totals₀ conc₀ flow₀ runs₀ measured₀ flags₀ p₀ rows totals conc flow runs measured flags p =
-    Reached file p (inOpen runs measured flags conc flow) (inDone rows totals) × (length conc ≡ mostHours) × (length flow ≡ mostHours)
+Inv-loop file rows₀ totals₀ conc₀ flow₀ runs₀ measured₀ states₀ flags₀ p₀ rows totals conc flow runs measured states flags p =
+    Reached file p (inOpen runs measured states flags conc flow) (inDone rows totals) × (length conc ≡ mostHours) × (length flow ≡ mostHours)
 
 abbrev μ-loop : tie.MeasureT-loop
-μ-loop file rows₀ totals₀ conc₀ flow₀ runs₀ measured₀ flags₀ p₀ rows totals conc flow runs measured flags p = length file - p .at
+μ-loop file rows₀ totals₀ conc₀ flow₀ runs₀ measured₀ states₀ flags₀ p₀ rows totals conc flow runs measured states flags p = length file - p .at
 
 loop-holds : tie.Need-loop-holds Inv-loop μ-loop
 unfolding fine
@@ -28,16 +28,16 @@ loop-holds c =
     let first = second .before .before .before .before in
     let start = first .before .before .before .before .before in
     let p = start .pre in
-    (reached-start _ (replicate mostDays 0) (replicate mostDays 0) (replicate mostHours 0) _ _ _ _ _ refl refl refl (p .0) (p .1) (zeroed (now (start .args .conc)) _ (p .2) (first .clear-quarter .ensures)) (zeroed (now (start .args .flow)) _ (p .3) (second .clear-quarter2 .ensures)) refl, omega arith, omega arith)
+    (reached-start _ (replicate mostDays 0) (replicate mostDays 0) (replicate mostHours 0) (replicate mostHours 0) _ _ _ _ _ refl refl refl refl (p .0) (p .1) (zeroed (now (start .args .conc)) _ (p .2) (first .clear-quarter .ensures)) (zeroed (now (start .args .flow)) _ (p .3) (second .clear-quarter2 .ensures)) refl, omega arith, omega arith)
 
 step-requires : tie.Need-step-requires Inv-loop μ-loop
-step-requires c κs = let t = c .before .before .before .before .before .before .before in (t .before .before .loop .inv .0, t .if1 .taken)
+step-requires c κs = let t = c .before .before .before .before .before .before .before .before in (t .before .before .loop .inv .0, t .if1 .taken)
 
 loop-less : tie.Need-loop-less Inv-loop μ-loop
-loop-less c = let t = c .before .before .before .before in omega (arith, t .step .ensures .1, t .before .before .before .before .before .before .before .before .if1 .taken)
+loop-less c = let t = c .before .before .before .before in omega (arith, t .step .ensures .1, t .before .before .before .before .before .before .before .before .before .if1 .taken)
 
 loop-again : tie.Need-loop-again Inv-loop μ-loop
-loop-again c = let t = c .before .before .before .before in let i = t .before .before .before .before .before .before .before .before .before .before .loop .inv in (t .step .ensures .0, t .step .kept .1 .1 .1 .1 .1 .0 ∙ i .1, t .step .kept .1 .1 .1 .1 .1 .1 .0 ∙ i .2)
+loop-again c = let t = c .before .before .before .before in let i = t .before .before .before .before .before .before .before .before .before .before .before .loop .inv in (t .step .ensures .0, t .step .kept .1 .1 .1 .1 .1 .1 .0 ∙ i .1, t .step .kept .1 .1 .1 .1 .1 .1 .1 .0 ∙ i .2)
 
 same-length : tie.Need-same-length Inv-loop μ-loop
 same-length c = c .before .before .before .loop .inv .1 ∙ sym (c .before .before .before .before .before .before .before .before .before .before .before .before .before .before .before .pre .2)
