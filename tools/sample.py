@@ -7,26 +7,17 @@ usage: tools/sample.py
 The answers beside them (NAME.out what the program prints, NAME.library what the library answers to a file that is too long for the program) come from the
 independent reference under rust/, not from the proved code: `cargo run --release -p reference --example answer < NAME.rec`, with the word `library` for the second.
 """
-import math, os, struct
+import math, os
+
+import records
+from records import END, batch, spans, survey
 
 HERE = os.path.join(os.path.dirname(os.path.dirname(os.path.abspath(__file__))), 'samples')
 DAYS = 92
 
 
-def record(kind, body):
-    return struct.pack('<HH', len(body) + 2, kind) + body
-
-
 def head(stack, pollutant, required, furnace=1, coal=4, mw=330, mark=3):
-    return record(1, struct.pack('<HBBBBHBB', stack, pollutant, required, furnace, coal, mw, mark, DAYS))
-
-
-def survey(kind, hour, c, l):
-    return record(kind, struct.pack('<Hff', hour, c, l))
-
-
-def batch(kg, sulphur, ash):
-    return record(5, struct.pack('<QHH', kg, sulphur, ash))
+    return records.head(stack, pollutant, required, furnace, coal, mw, mark, DAYS)
 
 
 def load(hour):
@@ -42,29 +33,10 @@ def readings(level, hour):
 
 
 def days(level, stopped, missing):
-    out = b''
-    for d in range(DAYS):
-        run = measured = 0
-        pairs = b''
-        for h in range(24):
-            t = 24 * d + h
-            pair = bytes(8)
-            if t not in stopped:
-                run |= 1 << h
-                if t not in missing:
-                    measured |= 1 << h
-                    pair = struct.pack('<ff', *readings(level, t))
-            pairs += pair
-        out += record(2, struct.pack('<BII', d, run, measured) + pairs)
-    return out
-
-
-def spans(*pairs):
-    return {t for a, n in pairs for t in range(a, a + n)}
+    return records.days(DAYS, lambda t: readings(level, t), stopped, missing)
 
 
 OUTAGE = spans((1000, 77))
-END = record(6, b'')
 
 
 def sulphur_dioxide(stack):
