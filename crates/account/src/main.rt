@@ -1,5 +1,18 @@
 // The program: a record file on standard input, its answer on standard output.
+
+// An argument, which a caller may take for the file's name, is refused before anything is read.
+fn refuse_arguments() {
+    io::write_all(
+        libc::STDERR_FILENO,
+        b"usage: account < FILE (a record file on standard input, no arguments); nothing is stated\n",
+    );
+}
+
 fn main() {
+    if os::arg_count() > 1 {
+        refuse_arguments();
+        return;
+    }
     let mut file = [0u8; 65537];
     let mut text = [0u8; 8192];
     let answer = input::answer_input(&mut file, &mut text);

@@ -20,7 +20,7 @@ use Rattle.panel.specs.Panel.{unchanged, panelStep}
 unfoldable pub answerCells : Answer → List ℕ
 answerCells a = a .number ∷ a .place ∷ a .rows ∷ table (λ i. getD (a .totals) i 0) totalCells
 
--- the promise of `quarter_account`: the number that it returns, the answer's cells, and what it leaves in the rows and in the two work slices
+-- the promise of `doarpezwim_account`: the number that it returns, the answer's cells, and what it leaves in the rows and in the two work slices
 pub record AccountFace (file rows concentrations flows : List ℕ) (r : ℕ) (answer' rows' concentrations' flows' : List ℕ) : Type 0 where
   pub returns : r ≡ answerOf file (length rows) (length concentrations) (length flows) .number
   pub answers : answer' ≡ answerCells (answerOf file (length rows) (length concentrations) (length flows))
@@ -40,14 +40,14 @@ panelOf total hours missing = record { total = total; hours = hours; missing = m
 unfoldable pub faceStep : Panel → ℕ → Float → Float → Stepped
 faceStep p kind concentration flow = need (unchanged 3 p) (leb kind 2) (panelStep p (hourOfKind kind concentration flow))
 
--- the promise of `panel_hour`: the number that it returns, and the state that it leaves in the three cells
+-- the promise of `doarpezwim_panel_hour`: the number that it returns, and the state that it leaves in the three cells
 pub record PanelFace (p : Panel) (kind : ℕ) (concentration flow : Float) (r : ℕ) (total' : Float) (hours' missing' : ℕ) : Type 0 where
   pub returns : r ≡ faceStep p kind concentration flow .number
   pub totalAfter : total' ≡ faceStep p kind concentration flow .next .total
   pub hoursAfter : hours' ≡ faceStep p kind concentration flow .next .hours
   pub missingAfter : missing' ≡ faceStep p kind concentration flow .next .missing
 
--- the promise of `governing_survey_part`, by the bytes of the governing part: their number, and them or, where it is empty, the cells as they were
+-- the promise of `doarpezwim_governing_survey`, by the bytes of the governing part: their number, and them or, where it is empty, the cells as they were
 pub record PartFace (bytes part : List ℕ) (r : ℕ) (part' : List ℕ) : Type 0 where
   pub returns : r ≡ length bytes
   pub leaves : part' ≡ pick (eqb (length bytes) 14) bytes part

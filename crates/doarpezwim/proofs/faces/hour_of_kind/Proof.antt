@@ -1,8 +1,8 @@
--- `exports::faces::hour_of_kind` meets its contract: each way out is the rule's case at the tests that led there. Assumes nothing.
+-- `doarpezwim::faces::hour_of_kind` meets its contract: each way out is the rule's case at the tests that led there. Assumes nothing.
 use Rattle.law.proofs.Tests.{judged}
-use Rattle.exports.specs.Faces.{hourOfKind}
-use Rattle.exports.proofs.faces.hour_of_kind.Statement.{statement}
-use Rattle.exports.proofs.faces.hour_of_kind.Tie as tie
+use Rattle.doarpezwim.specs.Faces.{hourOfKind}
+use Rattle.doarpezwim.proofs.faces.hour_of_kind.Statement.{statement}
+use Rattle.doarpezwim.proofs.faces.hour_of_kind.Tie as tie
 
 returns : tie.Need-returns
 unfolding hourOfKind

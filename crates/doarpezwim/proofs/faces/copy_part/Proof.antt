@@ -1,13 +1,13 @@
--- `exports::faces::copy_part` meets its contract: the bytes are written from the front. Assumes nothing.
+-- `doarpezwim::faces::copy_part` meets its contract: the bytes are written from the front. Assumes nothing.
 use Prim.Native.Nat.{_-_, _≤_}
 use native.Mathlib.Omega.{arith}
 use mathlib.Core.Path.{refl}
 use lib.ListN.{getD}
 use borrow.Author.Needs.{needs}
 use Rattle.law.proofs.Over.{Writing, writing-start, writing-more}
-use Rattle.exports.proofs.Laws.{copied}
-use Rattle.exports.proofs.faces.copy_part.Statement.{statement}
-use Rattle.exports.proofs.faces.copy_part.Tie as tie
+use Rattle.doarpezwim.proofs.Laws.{copied}
+use Rattle.doarpezwim.proofs.faces.copy_part.Statement.{statement}
+use Rattle.doarpezwim.proofs.faces.copy_part.Tie as tie
 
 abbrev Inv-loop : tie.InvT-loop
 Inv-loop from part₀ i₀ part i = Writing (λ k. getD from k 0) part₀ part i × (i ≤ 14)

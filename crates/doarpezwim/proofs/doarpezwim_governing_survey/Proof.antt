@@ -1,8 +1,8 @@
--- `exports::governing_survey_part` meets its contract: a block of 14 bytes is copied out, and any other is the empty part. Assumes nothing.
+-- `doarpezwim::doarpezwim_governing_survey` meets its contract: a block of 14 bytes is copied out, and any other is the empty part. Assumes nothing.
 use borrow.Author.Needs.{needs}
-use Rattle.exports.proofs.Laws.{part-found, part-none}
-use Rattle.exports.proofs.governing_survey_part.Statement.{statement}
-use Rattle.exports.proofs.governing_survey_part.Tie as tie
+use Rattle.doarpezwim.proofs.Laws.{part-found, part-none}
+use Rattle.doarpezwim.proofs.doarpezwim_governing_survey.Statement.{statement}
+use Rattle.doarpezwim.proofs.doarpezwim_governing_survey.Tie as tie
 
 governing-survey-requires : tie.Need-governing-survey-requires
 governing-survey-requires c κs = search needs
@@ -16,6 +16,6 @@ returns c = part-found _ _ _ _ _ (c .before .before .before .governing-survey .e
 returns-2 : tie.Need-returns-2
 returns-2 c = part-none _ _ _ _ _ (c .before .governing-survey .ensures) (c .if1 .left)
 
-pub governing-survey-part-spec : {M : Type 1} → statement M
-governing-survey-part-spec =
+pub doarpezwim-governing-survey-spec : {M : Type 1} → statement M
+doarpezwim-governing-survey-spec =
     tie.close (tie.spec governing-survey-requires copy-part-requires returns returns-2)

@@ -1,8 +1,8 @@
--- `exports::quarter_account` meets its contract: it hands on what the account and the cells promise. Assumes nothing.
+-- `doarpezwim::doarpezwim_account` meets its contract: it hands on what the account and the cells promise. Assumes nothing.
 use borrow.Author.Needs.{needs}
-use Rattle.exports.proofs.Laws.{account-face}
-use Rattle.exports.proofs.quarter_account.Statement.{statement}
-use Rattle.exports.proofs.quarter_account.Tie as tie
+use Rattle.doarpezwim.proofs.Laws.{account-face}
+use Rattle.doarpezwim.proofs.doarpezwim_account.Statement.{statement}
+use Rattle.doarpezwim.proofs.doarpezwim_account.Tie as tie
 
 account-requires : tie.Need-account-requires
 account-requires c κs = search needs
@@ -22,7 +22,7 @@ same-length-3 c = search needs
 returns : tie.Need-returns
 returns c = account-face _ _ _ _ _ _ _ _ _ (c .before .before .before .before .before .before .before .account .ensures) (c .answer-cells .ensures)
 
-pub quarter-account-spec : {M : Type 1} → statement M
-quarter-account-spec =
+pub doarpezwim-account-spec : {M : Type 1} → statement M
+doarpezwim-account-spec =
     tie.close
     (tie.spec account-requires answer-cells-requires same-length same-length-2 same-length-3 returns)

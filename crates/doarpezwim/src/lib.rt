@@ -1,12 +1,12 @@
 // The faces for C and Rust: the account, a panel's hour, the governing survey.
 ghost use Rattle.survey.specs.Governing.{governing};
-ghost use Rattle.exports.specs.Faces.{panelOf, AccountFace, PanelFace, PartFace};
+ghost use Rattle.doarpezwim.specs.Faces.{panelOf, AccountFace, PanelFace, PartFace};
 use panel::Panel;
 
 mod faces;
 
 #[no_mangle]
-pub extern "C" fn quarter_account(
+pub extern "C" fn doarpezwim_account(
     file: &[u8],
     rows: &mut [u64],
     concentration: &mut [u32],
@@ -23,7 +23,7 @@ pub extern "C" fn quarter_account(
 
 // An unknown kind is refused before the state is looked at.
 #[no_mangle]
-pub extern "C" fn panel_hour(
+pub extern "C" fn doarpezwim_panel_hour(
     total: &mut f64,
     hours: &mut u32,
     missing: &mut u32,
@@ -52,7 +52,7 @@ pub extern "C" fn panel_hour(
 
 // An exported call hands no reference back, so the block is copied out.
 #[no_mangle]
-pub extern "C" fn governing_survey_part<'a>(
+pub extern "C" fn doarpezwim_governing_survey<'a>(
     enforcement: &'a [u8],
     plant: &'a [u8],
     hour: u16,

@@ -18,7 +18,7 @@ use Rattle.panel.specs.declared.Stepped.{Stepped}
 use Rattle.panel.specs.Panel.{unchanged, panelStep}
 use Rattle.survey.specs.Governing.{Part, here, governing}
 use Rattle.survey.proofs.Laws.{governing-shape}
-use Rattle.exports.specs.Faces.{answerCells, AccountFace, hourOfKind, faceStep, PanelFace, PartFace}
+use Rattle.doarpezwim.specs.Faces.{answerCells, AccountFace, hourOfKind, faceStep, PanelFace, PartFace}
 
 -- ---- the account
 pub account-face : (file rows concentrations flows : List ℕ) (a : Answer) (answer' rows' concentrations' flows' : List ℕ) → Promise file rows concentrations flows a rows' concentrations' flows' → answer' ≡ answerCells a → AccountFace file rows concentrations flows (a .number) answer' rows' concentrations' flows'

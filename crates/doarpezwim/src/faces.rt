@@ -1,7 +1,7 @@
 // What stands between the faces and the calls behind them: an answer in its cells, an hour by its kind, a part copied out.
 ghost use mathlib.Core.Path.{_≡_};
 ghost use lib.ListN.{length};
-ghost use Rattle.exports.specs.Faces.{answerCells, hourOfKind};
+ghost use Rattle.doarpezwim.specs.Faces.{answerCells, hourOfKind};
 use reading::Hour;
 use rules::Answer;
 
