@@ -27,6 +27,7 @@ fn agrees_on_generated_files() {
         }
     });
     report(&census);
+    assert_eq!(census.inputs, (PARTS.len() * INPUTS_OF_A_PART) as u64);
     for number in 0..=9 {
         assert!(census.numbers[number] >= LEAST, "number {number} was hardly reached");
     }

@@ -12,11 +12,11 @@ fn account_file() -> Result<(), Box<dyn Error>> {
 }
 
 fn main() -> ExitCode {
-    account_file().map_or_else(
-        |error| {
+    match account_file() {
+        Ok(()) => ExitCode::SUCCESS,
+        Err(error) => {
             eprintln!("account_file: {error}");
             ExitCode::FAILURE
-        },
-        |()| ExitCode::SUCCESS,
-    )
+        }
+    }
 }
