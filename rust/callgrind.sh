@@ -3,8 +3,8 @@
 # A run of 11 calls less a run of 1 call is 10 calls: what else the program does is in both.
 set -eu
 cd "$(dirname "$0")"
-cargo build --offline --release --quiet --example speed
-# Callgrind takes each byte of a `rep stosb` or `rep movsb` for an instruction, so that the C library is told to do without.
+cargo build --offline --release --quiet -p doarpezwim --example speed
+# On x86-64 callgrind takes each byte of a `rep stosb` or `rep movsb` for an instruction: the C library does without.
 export GLIBC_TUNABLES=glibc.cpu.x86_rep_stosb_threshold=1000000000:glibc.cpu.x86_rep_movsb_threshold=1000000000
 
 collected() {

@@ -1,11 +1,12 @@
 /*
- * Reads a record file on standard input and prints its rows and totals, or its refusal.
+ * Reads a record file on standard input and prints its rows and totals; or prints its refusal, and on standard error
+ * what that means.
  *
- * In the folder rust/, after `rt staticlib exports` in the repository root:
+ * In the folder rust/ on x86-64, after `rt staticlib doarpezwim` in the repository root:
  *
  *     mkdir -p target
  *     cc -std=c99 -Wall -Wextra -O2 -I include -o target/one_file \
- *         examples-c/one_file.c ../target/staticlib/libexports.a
+ *         examples-c/one_file.c ../target/staticlib/libdoarpezwim.a
  *     target/one_file < ../samples/example.rec
  */
 #include <inttypes.h>
@@ -29,6 +30,12 @@ static void print_row(const uint64_t *row)
     putchar('\n');
 }
 
+static void print_refusal(uint32_t number, uint64_t place)
+{
+    printf("refused %" PRIu32 " %" PRIu64 "\n", number, place);
+    fprintf(stderr, "one_file: at byte %" PRIu64 ": %s\n", place, doarpezwim_refusal_text(number));
+}
+
 int main(void)
 {
     size_t length = fread(file, 1, sizeof file, stdin);
@@ -36,16 +43,17 @@ int main(void)
         fprintf(stderr, "one_file: the input cannot be read, or is over %d bytes\n", MOST_BYTES);
         return 2;
     }
-    uint64_t answer[6];
-    uint32_t number = quarter_account(file, length, rows, sizeof rows / sizeof *rows, concentration,
-                                      DOARPEZWIM_WORK_CELLS, flow, DOARPEZWIM_WORK_CELLS, answer);
-    if (number != 0) {
-        printf("refused %" PRIu32 " %" PRIu64 "\n", number, answer[1]);
+    uint64_t answer[DOARPEZWIM_ANSWER_CELLS];
+    uint32_t number = doarpezwim_account(file, length, rows, sizeof rows / sizeof *rows, concentration,
+                                         DOARPEZWIM_WORK_CELLS, flow, DOARPEZWIM_WORK_CELLS, answer);
+    if (number != DOARPEZWIM_ACCEPTED) {
+        print_refusal(number, answer[DOARPEZWIM_ANSWER_PLACE]);
         return 1;
     }
-    for (uint64_t row = 0; row < answer[2]; row++) {
+    for (uint64_t row = 0; row < answer[DOARPEZWIM_ANSWER_ROWS]; row++) {
         print_row(rows + DOARPEZWIM_ROW_CELLS * row);
     }
-    printf("total %" PRIu64 " %" PRIu64 " %" PRIu64 "\n", answer[3], answer[4], answer[5]);
+    printf("total %" PRIu64 " %" PRIu64 " %" PRIu64 "\n", answer[DOARPEZWIM_ANSWER_SULPHUR_DIOXIDE],
+           answer[DOARPEZWIM_ANSWER_NITROGEN_OXIDES], answer[DOARPEZWIM_ANSWER_DUST]);
     return 0;
 }

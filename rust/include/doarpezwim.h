@@ -3,12 +3,10 @@
  *
  * The three functions are proved. For every input that keeps to the rules below they end, read and write nothing but
  * what they are lent, and answer what the document says. They keep no state, allocate nothing and may be called from
- * several threads at once, each with slices of its own.
+ * several threads at once, each with slices of its own. They are compiled for Linux on x86-64, in libdoarpezwim.a.
  *
  * Rules for the caller: a pointer is never null, also with a length of 0; it is aligned for its type; a length counts
  * elements, not bytes; what is written to overlaps no other argument.
- *
- * Refusal numbers: docs/REFUSALS.md says what each means and what to do.
  */
 #ifndef DOARPEZWIM_H
 #define DOARPEZWIM_H
@@ -20,12 +18,95 @@
 extern "C" {
 #endif
 
+#define DOARPEZWIM_VERSION_MAJOR 0
+#define DOARPEZWIM_VERSION_MINOR 1
+#define DOARPEZWIM_VERSION_PATCH 0
+#define DOARPEZWIM_VERSION "0.1.0"
+
 /* Cells that each work slice has to have: the hours of 92 days. */
 #define DOARPEZWIM_WORK_CELLS 2208
-/* Cells of a row: stack, pollutant, method, grams, running, missing, first missing hour plus 1 (0 if none). */
+/* Cells of a row, as enum doarpezwim_row_cell names them. */
 #define DOARPEZWIM_ROW_CELLS 7
 /* Lines that a file may hold; a line gives a row. */
 #define DOARPEZWIM_MOST_LINES 48
+/* Cells of an answer, as enum doarpezwim_answer_cell names them. */
+#define DOARPEZWIM_ANSWER_CELLS 6
+/* Bytes of a survey record. */
+#define DOARPEZWIM_SURVEY_BYTES 14
+
+/*
+ * Bytes of stack that a call needs: doarpezwim_account takes 32,560 and what it calls 112 more; the other two take less
+ * than 100. Measured, not proved: read off the machine code of libdoarpezwim.a, and seen on a stack that was painted.
+ * Where memset and memcpy of the C library are bound at their first call, the loader takes some more for itself.
+ */
+#define DOARPEZWIM_STACK_BYTES 32672
+
+/* The numbers that are answered; docs/REFUSALS.md says more of each, and what to do. */
+enum doarpezwim_refusal {
+    DOARPEZWIM_ACCEPTED = 0,
+    DOARPEZWIM_CUT_OR_UNKNOWN = 1,
+    DOARPEZWIM_OUT_OF_PLACE = 2,
+    DOARPEZWIM_OUT_OF_RANGE = 3,
+    DOARPEZWIM_BAD_READING = 4,
+    DOARPEZWIM_STOPPED_SURVEY = 5,
+    DOARPEZWIM_NO_BATCH = 6,
+    DOARPEZWIM_NO_ENTRY = 7,
+    DOARPEZWIM_FEW_ROW_CELLS = 8,
+    DOARPEZWIM_FEW_WORK_CELLS = 9,
+    DOARPEZWIM_PANEL_OVER = 10,
+    DOARPEZWIM_PANEL_FULL = 11,
+    DOARPEZWIM_PANEL_UNLAWFUL = 12,
+    /* Of the program `account` alone: the library takes files of any length. */
+    DOARPEZWIM_INPUT_TOO_LONG = 13,
+    /* Of doarpezwim_panel_hour: the kind of hour does not exist. */
+    DOARPEZWIM_UNKNOWN_KIND = 3
+};
+
+/* What is wrong, in words without a place; for a number that is never answered, that it is unknown. */
+static inline const char *doarpezwim_refusal_text(uint32_t number)
+{
+    switch (number) {
+    case 0: return "accepted";
+    case 1: return "a record is cut short, of an unknown kind, or not of its kind's length";
+    case 2: return "a record is out of place or one too many, or the file ends inside a line";
+    case 3: return "a field, a mask, the fuel, a survey's hour or a kind of hour is out of range";
+    case 4: return "a reading is not allowed or over its limit, or an unmeasured hour is not zero";
+    case 5: return "a survey names an hour in which the stack was stopped";
+    case 6: return "a line goes by fuel and has no batch";
+    case 7: return "a line goes by fuel and the tables have no entry for its boiler";
+    case 8: return "fewer than 7 cells a line were lent for rows";
+    case 9: return "a work slice has under 2208 cells";
+    case 10: return "the panel's total would pass 2^53";
+    case 11: return "the panel holds 2208 hours already";
+    case 12: return "the panel's state is not lawful";
+    case 13: return "the input is over 65536 bytes, which is the program's limit";
+    default: return "an unknown refusal";
+    }
+}
+
+/* The cells of an answer: totals are grams, over all rows. */
+enum doarpezwim_answer_cell {
+    DOARPEZWIM_ANSWER_NUMBER = 0,
+    DOARPEZWIM_ANSWER_PLACE = 1,
+    DOARPEZWIM_ANSWER_ROWS = 2,
+    DOARPEZWIM_ANSWER_SULPHUR_DIOXIDE = 3,
+    DOARPEZWIM_ANSWER_NITROGEN_OXIDES = 4,
+    DOARPEZWIM_ANSWER_DUST = 5
+};
+
+/* The cells of a row. */
+enum doarpezwim_row_cell {
+    DOARPEZWIM_ROW_STACK = 0,
+    /* 1 sulphur dioxide, 2 nitrogen oxides, 3 dust. */
+    DOARPEZWIM_ROW_POLLUTANT = 1,
+    /* 1 automatic, 2 manual, 3 mass balance, 4 coefficient. */
+    DOARPEZWIM_ROW_METHOD = 2,
+    DOARPEZWIM_ROW_GRAMS = 3,
+    DOARPEZWIM_ROW_RUNNING_HOURS = 4,
+    DOARPEZWIM_ROW_MISSING_HOURS = 5,
+    /* Counted from 1 through the period; 0 if no hour is missing. */
+    DOARPEZWIM_ROW_FIRST_MISSING_PLUS_1 = 6
+};
 
 /*
  * States the account of a record file of any length.
@@ -41,14 +122,12 @@ extern "C" {
  * hundredths of mg/m3 and in m3/h; after a refusal they are zero, but 9 leaves both slices alone. Cells past 2,208 are
  * never written.
  */
-uint32_t quarter_account(const uint8_t *file, size_t file_len, uint64_t *rows, size_t rows_len,
-                         uint32_t *concentration, size_t concentration_len, uint32_t *flow, size_t flow_len,
-                         uint64_t answer[6]);
+uint32_t doarpezwim_account(const uint8_t *file, size_t file_len, uint64_t *rows, size_t rows_len,
+                            uint32_t *concentration, size_t concentration_len, uint32_t *flow, size_t flow_len,
+                            uint64_t answer[DOARPEZWIM_ANSWER_CELLS]);
 
 /* Kinds of hour. */
-#define DOARPEZWIM_STOPPED 0
-#define DOARPEZWIM_MISSING 1
-#define DOARPEZWIM_MEASURED 2
+enum doarpezwim_hour { DOARPEZWIM_STOPPED = 0, DOARPEZWIM_MISSING = 1, DOARPEZWIM_MEASURED = 2 };
 
 /*
  * Takes one hour into a panel and returns 0, or returns a refusal number and leaves the panel as it was.
@@ -56,18 +135,20 @@ uint32_t quarter_account(const uint8_t *file, size_t file_len, uint64_t *rows, s
  * A new panel is all zero. The total is the sum of c x l (hundredths of mg/m3 times m3/h), exact up to 2^53. The
  * readings, in mg/m3 and m3/h, are looked at for a measured hour only.
  *
- * Refusals, in this order: 3 kind over 2, 12 state not lawful, 11 it holds 2,208 hours, 4 a reading is not allowed or
- * over its limit, 10 the total would pass 2^53.
+ * A kind that is none of enum doarpezwim_hour is answered DOARPEZWIM_UNKNOWN_KIND before the state is looked at. Then,
+ * in this order: 12 state not lawful, 11 it holds 2,208 hours, 4 a reading is not allowed or over its limit, 10 the
+ * total would pass 2^53.
  */
-uint32_t panel_hour(double *total, uint32_t *hours, uint32_t *missing, uint32_t kind, float concentration, float flow);
+uint32_t doarpezwim_panel_hour(double *total, uint32_t *hours, uint32_t *missing, uint32_t kind, float concentration,
+                               float flow);
 
 /*
  * Finds the survey that governs an hour: the first 14-byte block of that hour in the enforcement slice that starts with
  * length 12 and kind 3, else the first in the plant slice with length 12 and kind 4. A tail under 14 bytes is ignored,
  * and readings are not judged. Copies the block to part and returns 14, or leaves part alone and returns 0.
  */
-uint32_t governing_survey_part(const uint8_t *enforcement, size_t enforcement_len, const uint8_t *plant,
-                               size_t plant_len, uint16_t hour, uint8_t part[14]);
+uint32_t doarpezwim_governing_survey(const uint8_t *enforcement, size_t enforcement_len, const uint8_t *plant,
+                                     size_t plant_len, uint16_t hour, uint8_t part[DOARPEZWIM_SURVEY_BYTES]);
 
 #ifdef __cplusplus
 }

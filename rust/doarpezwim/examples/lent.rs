@@ -14,7 +14,7 @@ fn account(case: Case, rng: &mut Rng) -> u32 {
     let mut answer = Box::new([0; 6]);
     // SAFETY: every pointer comes with the length of its own block.
     unsafe {
-        ffi::quarter_account(
+        ffi::doarpezwim_account(
             file.as_ptr(),
             file.len(),
             rows.as_mut_ptr(),
@@ -31,7 +31,9 @@ fn account(case: Case, rng: &mut Rng) -> u32 {
 fn panel(step: Step) -> u32 {
     let (mut total, mut hours, mut missing) = (Box::new(step.total), Box::new(step.hours), Box::new(step.missing));
     // SAFETY: the three pointers are blocks of their own.
-    unsafe { ffi::panel_hour(&mut *total, &mut *hours, &mut *missing, step.kind, step.concentration, step.flow) }
+    unsafe {
+        ffi::doarpezwim_panel_hour(&mut *total, &mut *hours, &mut *missing, step.kind, step.concentration, step.flow)
+    }
 }
 
 fn survey(lookup: Lookup) -> u32 {
@@ -39,7 +41,7 @@ fn survey(lookup: Lookup) -> u32 {
     let mut part = Box::new([0; 14]);
     // SAFETY: every pointer comes with the length of its own block.
     unsafe {
-        ffi::governing_survey_part(
+        ffi::doarpezwim_governing_survey(
             enforcement.as_ptr(),
             enforcement.len(),
             plant.as_ptr(),

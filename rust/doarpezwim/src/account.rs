@@ -1,29 +1,137 @@
 //! The quarter account of a record file.
 
-use crate::ffi;
+use std::fmt;
 
-/// Number and place are 0 on acceptance; on a refusal they name it, and the rest is 0.
-#[derive(Clone, Copy, Debug, Default, PartialEq, Eq)]
-pub struct Answer {
-    /// The refusal number, 1 to 9; see docs/REFUSALS.md.
-    pub number: u32,
-    /// Byte offset of the record at fault.
-    pub place: u64,
-    /// Rows written, seven cells each.
-    pub rows: u64,
-    /// Grams of sulphur dioxide, nitrogen oxides and dust.
-    pub totals: [u64; 3],
+use crate::{MOST_LINES, Pollutant, ROW_CELLS, Refusal, Row, WORK_CELLS, ffi};
+
+/// Grams of each pollutant, over all rows.
+#[derive(Clone, Copy, Debug, Default, PartialEq, Eq, Hash)]
+pub struct Totals {
+    /// Grams of sulphur dioxide.
+    pub sulphur_dioxide: u64,
+    /// Grams of nitrogen oxides.
+    pub nitrogen_oxides: u64,
+    /// Grams of dust.
+    pub dust: u64,
 }
 
-/// States the account of `file`.
+impl Totals {
+    /// The grams of one pollutant.
+    #[must_use]
+    pub fn of(&self, pollutant: Pollutant) -> u64 {
+        match pollutant {
+            Pollutant::SulphurDioxide => self.sulphur_dioxide,
+            Pollutant::NitrogenOxides => self.nitrogen_oxides,
+            Pollutant::Dust => self.dust,
+        }
+    }
+}
+
+impl fmt::Display for Totals {
+    fn fmt(&self, text: &mut fmt::Formatter) -> fmt::Result {
+        let Totals { sulphur_dioxide, nitrogen_oxides, dust } = self;
+        write!(text, "total: {sulphur_dioxide} g sulphur dioxide, {nitrogen_oxides} g nitrogen oxides, {dust} g dust")
+    }
+}
+
+/// What [`account`] states of a file.
+#[derive(Clone, Debug, Default, PartialEq, Eq, Hash)]
+#[must_use]
+pub struct Account {
+    /// A row for each line, in the file's order: by stack, then by pollutant.
+    pub rows: Vec<Row>,
+    /// The rows' grams, summed.
+    pub totals: Totals,
+}
+
+/// What [`account_into`] states of a file; the rows stand in the cells that were lent for them.
+#[derive(Clone, Copy, Debug, PartialEq, Eq)]
+#[must_use]
+pub struct Stated<'a> {
+    cells: &'a [[u64; ROW_CELLS]],
+    totals: Totals,
+}
+
+impl<'a> Stated<'a> {
+    /// A row for each line, in the file's order.
+    pub fn rows(&self) -> impl ExactSizeIterator<Item = Row> + use<'a> {
+        self.cells.iter().map(|cells| Row::of_cells(cells).expect("the proved call writes rows"))
+    }
+
+    /// The rows as cells: stack, pollutant, method, grams, running, missing, first missing hour plus 1.
+    #[must_use]
+    pub fn cells(&self) -> &'a [[u64; ROW_CELLS]] {
+        self.cells
+    }
+
+    /// The rows' grams, summed.
+    #[must_use]
+    pub fn totals(&self) -> Totals {
+        self.totals
+    }
+}
+
+/// States the account of a record file of any length.
 ///
-/// Rows are written from the start of `rows`, and nothing past them; a refused file leaves all of them alone. The first
-/// 2,208 cells of the two work slices hold the last line's hours afterwards, or zero after a refusal other than 9.
-pub fn account(file: &[u8], rows: &mut [u64], concentration: &mut [u32], flow: &mut [u32]) -> Answer {
+/// An empty file is a sound one without rows. What is not sound is refused with the first fault and its place:
+///
+/// ```
+/// use doarpezwim::{Method, Pollutant, Refusal};
+///
+/// let mut file = std::fs::read("../../samples/example.rec")?;
+/// let row = doarpezwim::account(&file)?.rows[0];
+/// assert_eq!((row.stack, row.pollutant, row.method), (1, Pollutant::NitrogenOxides, Method::Automatic));
+/// assert_eq!((row.running_hours, row.missing_hours, row.first_missing_hour), (4, 1, Some(2)));
+///
+/// file.truncate(219); // The end record is lost.
+/// assert_eq!(doarpezwim::account(&file), Err(Refusal::OutOfPlace { place: 219 }));
+/// # Ok::<(), Box<dyn std::error::Error>>(())
+/// ```
+///
+/// # Errors
+///
+/// A file that is not sound gives one of the refusals 1 to 7. 8 and 9 do not come up: enough cells are lent.
+pub fn account(file: &[u8]) -> Result<Account, Refusal> {
+    let mut rows = [0; ROW_CELLS * MOST_LINES];
+    let mut work = vec![0; 2 * WORK_CELLS];
+    let (concentration, flow) = work.split_at_mut(WORK_CELLS);
+    let stated = account_into(file, &mut rows, concentration, flow)?;
+    Ok(Account { rows: stated.rows().collect(), totals: stated.totals })
+}
+
+/// States the account of a record file of any length, over slices that the caller lends; nothing is allocated.
+///
+/// Rows are written from the start of `rows`, and nothing past them; a refused file leaves all of them alone.
+///
+/// Afterwards the first [`WORK_CELLS`] cells of the two work slices hold the last line's hours, in hundredths of mg/m3
+/// and in m3/h: measured, surveyed, or filled under [`Method::Automatic`](crate::Method::Automatic), and zero
+/// elsewhere. After a refusal they are zero, but 9 leaves both slices alone. Cells past them are never written.
+///
+/// ```
+/// use doarpezwim::{ROW_CELLS, WORK_CELLS};
+///
+/// let file = std::fs::read("../../samples/example.rec")?;
+/// let mut rows = [0; ROW_CELLS];
+/// let (mut concentration, mut flow) = ([0; WORK_CELLS], [0; WORK_CELLS]);
+/// let stated = doarpezwim::account_into(&file, &mut rows, &mut concentration, &mut flow)?;
+/// assert_eq!(stated.rows().len(), 1);
+/// assert_eq!((concentration[2], flow[2]), (3_550, 1_000_001)); // The fill of hour 2.
+/// # Ok::<(), Box<dyn std::error::Error>>(())
+/// ```
+///
+/// # Errors
+///
+/// The refusals 1 to 7 of [`account`], 8 if `rows` is too short, 9 if a work slice is.
+pub fn account_into<'a>(
+    file: &[u8],
+    rows: &'a mut [u64],
+    concentration: &mut [u32],
+    flow: &mut [u32],
+) -> Result<Stated<'a>, Refusal> {
     let mut answer = [0; 6];
     // SAFETY: each pointer comes with the length of its slice, and the borrows keep the four mutable ones apart.
     let number = unsafe {
-        ffi::quarter_account(
+        ffi::doarpezwim_account(
             file.as_ptr(),
             file.len(),
             rows.as_mut_ptr(),
@@ -35,7 +143,11 @@ pub fn account(file: &[u8], rows: &mut [u64], concentration: &mut [u32], flow: &
             &mut answer,
         )
     };
-    let [stated, place, rows, totals @ ..] = answer;
-    debug_assert_eq!(u64::from(number), stated);
-    Answer { number, place, rows, totals }
+    let [_, place, count, sulphur_dioxide, nitrogen_oxides, dust] = answer;
+    if number != 0 {
+        return Err(Refusal::of_account(number, place as usize));
+    }
+    // As many rows were written as there are lines, and there was room for them.
+    let cells = &rows.as_chunks().0[..count as usize];
+    Ok(Stated { cells, totals: Totals { sulphur_dioxide, nitrogen_oxides, dust } })
 }

@@ -1,7 +1,14 @@
-//! The C interface of the proved archive.
+//! The C interface of the proved archive as it is, for a caller who wants no wrapper.
+//!
+//! `include/doarpezwim.h` says what each call takes and answers. No pointer is null, each is aligned for its type, a
+//! length counts elements, and what is written to overlaps no other argument.
 
 unsafe extern "C" {
-    pub fn quarter_account(
+    /// The call behind [`account_into`](crate::account_into); returns the refusal number, or 0.
+    ///
+    /// # Safety
+    /// Each pointer but the last is followed by the number of elements that it leads to, and the module's rules hold.
+    pub fn doarpezwim_account(
         file: *const u8,
         file_len: usize,
         rows: *mut u64,
@@ -13,7 +20,13 @@ unsafe extern "C" {
         answer: *mut [u64; 6],
     ) -> u32;
 
-    pub fn panel_hour(
+    /// The call behind [`Panel::hour`](crate::Panel::hour); returns the refusal number, or 0.
+    ///
+    /// A kind that is none of 0 stopped, 1 missing, 2 measured is refused before the state is looked at.
+    ///
+    /// # Safety
+    /// The module's rules hold.
+    pub fn doarpezwim_panel_hour(
         total: *mut f64,
         hours: *mut u32,
         missing: *mut u32,
@@ -22,7 +35,11 @@ unsafe extern "C" {
         flow: f32,
     ) -> u32;
 
-    pub fn governing_survey_part(
+    /// The call behind [`governing_survey`](crate::governing_survey); returns 14 with the block copied to `part`, or 0.
+    ///
+    /// # Safety
+    /// Each slice's pointer is followed by its length, and the module's rules hold.
+    pub fn doarpezwim_governing_survey(
         enforcement: *const u8,
         enforcement_len: usize,
         plant: *const u8,

@@ -1,20 +1,40 @@
-//! Safe wrappers over the proved quarter account.
+//! The proved quarter account of a stack's emission.
 //!
-//! The three calls are proved in Rattle and linked from a static archive. What a call promises is what document 01
-//! says, for every input: the wrappers add nothing but the borrow rules that the C interface cannot state.
+//! [`account`] states what each stack of a record file emitted of each pollutant, in grams, with the method behind the
+//! figure, or says in a [`Refusal`] what is wrong with the file, where, and what to do:
+//!
+//! ```
+//! let file = std::fs::read("../../samples/example.rec")?;
+//! let account = doarpezwim::account(&file)?;
+//! assert_eq!(account.rows[0].grams, 126_500);
+//! assert_eq!(account.totals.nitrogen_oxides, 126_500);
+//! # Ok::<(), Box<dyn std::error::Error>>(())
+//! ```
+//!
+//! [`account_into`] is the same call over slices that the caller lends, [`Panel`] keeps a running total hour by hour,
+//! and [`governing_survey`] finds the survey that counts at an hour.
+//!
+//! The calls are proved in Rattle and linked from a static archive. They answer what document 01 says for every input,
+//! read and write nothing but what they are lent, allocate nothing and keep no state. This crate adds types, and the
+//! borrow rules that the C interface cannot state; it is not proved itself. A call takes about 32 KB of stack.
+#![warn(missing_docs)]
 
 mod account;
 pub mod ffi;
 mod panel;
+mod refusal;
+mod row;
 mod survey;
 
-pub use account::{Answer, account};
+pub use account::{Account, Stated, Totals, account, account_into};
 pub use panel::{Hour, Panel};
+pub use refusal::Refusal;
+pub use row::{Method, Pollutant, Row};
 pub use survey::governing_survey;
 
 /// Cells that each work slice has to have: the hours of 92 days.
 pub const WORK_CELLS: usize = 2_208;
 /// Cells of one row: stack, pollutant, method, grams, running, missing, first missing hour plus 1.
 pub const ROW_CELLS: usize = 7;
-/// Lines that a file may hold.
+/// Lines that a file may hold; a line gives a row.
 pub const MOST_LINES: usize = 48;

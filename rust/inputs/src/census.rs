@@ -70,9 +70,24 @@ pub struct Census {
 }
 
 impl Census {
+    /// Adds what another part of a run has reached.
+    pub fn add(&mut self, other: &Census) {
+        self.inputs += other.inputs;
+        self.bytes += other.bytes;
+        add_each(&mut self.numbers, &other.numbers);
+        add_each(&mut self.methods, &other.methods);
+        add_each(&mut self.fills, &other.fills);
+    }
+
     pub fn count_fills(&mut self, fills: &[Fill]) {
         for &fill in fills {
             self.fills[fill as usize] += 1;
         }
+    }
+}
+
+fn add_each(counts: &mut [u64], others: &[u64]) {
+    for (count, other) in counts.iter_mut().zip(others) {
+        *count += other;
     }
 }

@@ -1,22 +1,52 @@
 //! The worked figures and the example of document 01, one table for every implementation of the account call.
 
+use crate::outcome::Outcome;
 use crate::wire::{self, Batch, Day, Head, Line};
 
-/// The parts of an answer: number, place, row count, totals.
-pub type Parts = (u32, u64, u64, [u64; 3]);
-
+#[derive(Clone, Copy, Debug)]
 enum States {
     /// The cells of hour 0.
     Cells(u32, u32),
-    Refused(u32),
+    Refused(u64),
     /// Method and grams of the only row.
     Row(u64, u64),
+    /// The example of the document: its row, and the fill of hour 2.
+    Example,
+    /// No rows, no grams, no hours.
+    Nothing,
 }
 
-struct Figure {
+/// A file and what the document states of it; a call is lent one row and two quarters.
+#[derive(Debug)]
+pub struct Figure {
     name: &'static str,
-    line: Line,
+    pub file: Vec<u8>,
     states: States,
+}
+
+impl Figure {
+    fn of_line(name: &'static str, line: Line, states: States) -> Self {
+        Figure { name, file: wire::file(&[line]), states }
+    }
+
+    /// Holds what a call answered and wrote against the document.
+    pub fn check(&self, outcome: &Outcome) {
+        let Figure { name, states, .. } = self;
+        let Outcome { answer, rows, concentration, flow } = outcome;
+        match *states {
+            States::Refused(expected) => assert_eq!(answer[0], expected, "{name}"),
+            States::Cells(c, l) => assert_eq!((answer[0], concentration[0], flow[0]), (0, c, l), "{name}"),
+            States::Row(method, grams) => assert_eq!((answer[0], rows[2], rows[3]), (0, method, grams), "{name}"),
+            States::Example => {
+                assert_eq!((answer, &rows[..]), (&[0, 0, 1, 0, 126_500, 0], &[1, 2, 1, 126_500, 4, 1, 3][..]));
+                assert_eq!((concentration[2], flow[2]), (3_550, 1_000_001));
+            }
+            States::Nothing => {
+                assert_eq!(*answer, [0; 6]);
+                assert!(concentration.iter().chain(flow).all(|&cell| cell == 0));
+            }
+        }
+    }
 }
 
 const HEAD: Head = Head { stack: 1, pollutant: 2, required: 1, furnace: 1, coal: 4, megawatts: 300, mark: 1, days: 1 };
@@ -32,7 +62,7 @@ fn line(head: Head, day: Day, batches: &[Batch]) -> Line {
 fn reading(name: &'static str, concentration: f32, flow: f32, states: States) -> Figure {
     let mut day = Day::stopped(0);
     day.measure(0, concentration, flow);
-    Figure { name, line: line(HEAD, day, &[]), states }
+    Figure::of_line(name, line(HEAD, day, &[]), states)
 }
 
 /// A line of `running` hours, of which the last is missing.
@@ -40,17 +70,18 @@ fn quarter(name: &'static str, running: usize, states: States) -> Figure {
     let mut day = Day::stopped(0);
     (0..running).for_each(|hour| day.measure(hour, 10.0, 100.0));
     day.miss(running - 1);
-    Figure { name, line: line(HEAD, day, &[BATCH]), states }
+    Figure::of_line(name, line(HEAD, day, &[BATCH]), states)
 }
 
 /// A line whose only running hour is missing, so that fuel speaks.
 fn fuel(name: &'static str, head: Head, batches: &[Batch], states: States) -> Figure {
     let mut day = Day::stopped(0);
     day.miss(0);
-    Figure { name, line: line(head, day, batches), states }
+    Figure::of_line(name, line(head, day, batches), states)
 }
 
-fn figures() -> Vec<Figure> {
+/// All figures, the example and the empty file.
+pub fn figures() -> Vec<Figure> {
     let dioxide = Head { pollutant: 1, ..HEAD };
     let stronger = Batch { sulphur: 100, ..BATCH };
     vec![
@@ -67,6 +98,8 @@ fn figures() -> Vec<Figure> {
         fuel("balance, two batches", dioxide, &[BATCH, stronger], States::Row(3, 35_460_000)),
         fuel("oxides", Head { megawatts: 450, ..HEAD }, &[BATCH], States::Row(4, 7_950_000)),
         fuel("dust", Head { pollutant: 3, ..HEAD }, &[BATCH], States::Row(4, 195_330_000)),
+        Figure { name: "example", file: example(), states: States::Example },
+        Figure { name: "empty", file: Vec::new(), states: States::Nothing },
     ]
 }
 
@@ -78,24 +111,4 @@ pub fn example() -> Vec<u8> {
     day.miss(2);
     day.measure(3, 41.0, 1_000_001.0);
     wire::file(&[line(HEAD, day, &[])])
-}
-
-/// Holds an account call against the figures, the example and the empty file.
-pub fn check(account: impl Fn(&[u8], &mut [u64], &mut [u32], &mut [u32]) -> Parts) {
-    let (mut concentration, mut flow) = (vec![7; 2_208], vec![7; 2_208]);
-    for Figure { name, line, states } in figures() {
-        let mut rows = [0; 7];
-        let (number, ..) = account(&wire::file(&[line]), &mut rows, &mut concentration, &mut flow);
-        match states {
-            States::Refused(expected) => assert_eq!(number, expected, "{name}"),
-            States::Cells(c, l) => assert_eq!((number, concentration[0], flow[0]), (0, c, l), "{name}"),
-            States::Row(method, grams) => assert_eq!((number, rows[2], rows[3]), (0, method, grams), "{name}"),
-        }
-    }
-    let mut rows = [0; 7];
-    let answer = account(&example(), &mut rows, &mut concentration, &mut flow);
-    assert_eq!((answer, rows), ((0, 0, 1, [0, 126_500, 0]), [1, 2, 1, 126_500, 4, 1, 3]));
-    assert_eq!((concentration[2], flow[2]), (3_550, 1_000_001));
-    assert_eq!(account(&[], &mut [], &mut concentration, &mut flow), (0, 0, 0, [0; 3]));
-    assert!(concentration.iter().chain(&flow).all(|&cell| cell == 0));
 }

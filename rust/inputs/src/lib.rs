@@ -11,6 +11,7 @@ mod damage_lines;
 mod damage_records;
 pub mod figures;
 mod hours;
+mod outcome;
 mod panel;
 mod reading;
 mod rng;
@@ -21,6 +22,7 @@ pub mod wire;
 
 pub use case::Case;
 pub use census::{Census, Fill};
+pub use outcome::Outcome;
 pub use panel::Step;
 pub use rng::Rng;
 pub use sound::{Size, lines as sound_lines};

@@ -20,19 +20,21 @@ pub fn load() -> Vectors {
     Vectors { files: unframed(&framed), texts }
 }
 
-/// Holds the text of each file against the texts; gives the number of files.
-pub fn check(vectors: &Vectors, text: impl Fn(&[u8]) -> String) -> usize {
+/// Holds the texts of all files, in their order, against the corpus; gives their number.
+pub fn check(vectors: &Vectors, texts: impl IntoIterator<Item = String>) -> usize {
     let mut rest = vectors.texts.as_str();
-    for (number, file) in vectors.files.iter().enumerate() {
-        let text = text(file);
+    let mut count = 0;
+    for text in texts {
         let Some(after) = rest.strip_prefix(text.as_str()) else {
             let expected: Vec<&str> = rest.lines().take(50).collect();
-            panic!("vector {number}: printed\n{text}but expected was\n{}", expected.join("\n"));
+            panic!("vector {count}: printed\n{text}but expected was\n{}", expected.join("\n"));
         };
         rest = after;
+        count += 1;
     }
     assert!(rest.is_empty(), "text is left over: {rest}");
-    vectors.files.len()
+    assert_eq!(count, vectors.files.len());
+    count
 }
 
 /// Files one after another, each after its length as a u32.

@@ -17,6 +17,12 @@ pub struct Answer {
 }
 
 impl Answer {
+    /// The answer in six cells: number, place, row count and the three totals.
+    pub fn cells(&self) -> [u64; 6] {
+        let [first, second, third] = self.totals;
+        [u64::from(self.number), self.place, self.rows, first, second, third]
+    }
+
     fn refused(fault: Fault) -> Self {
         Answer { number: fault.refusal.number(), place: fault.place as u64, ..Answer::default() }
     }

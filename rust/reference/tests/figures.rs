@@ -1,11 +1,14 @@
 //! The reference against the worked figures of document 01.
 
+use inputs::Outcome;
+
 #[test]
 fn states_the_worked_figures() {
-    inputs::figures::check(|file, rows, concentration, flow| {
-        let answer = reference::account(file, rows, concentration, flow);
-        (answer.number, answer.place, answer.rows, answer.totals)
-    });
+    for figure in inputs::figures::figures() {
+        let (mut rows, mut concentration, mut flow) = (vec![7; 7], vec![7; 2_208], vec![7; 2_208]);
+        let answer = reference::account(&figure.file, &mut rows, &mut concentration, &mut flow).cells();
+        figure.check(&Outcome { answer, rows, concentration, flow });
+    }
 }
 
 #[test]
