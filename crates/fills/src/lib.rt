@@ -3,12 +3,7 @@ mod gaps;
 mod stretch;
 
 use cells::lesser;
-ghost use mathlib.Core.Path.{_≡_};
-ghost use Prim.Native.Nat.{_*_};
-ghost use lib.ListN.{take};
-ghost use Rattle.law.specs.Numbers.{hoursOfDay};
-ghost use Rattle.rules.specs.Hours.{firstMissing};
-ghost use Rattle.fills.specs.Period.{isFilled, periodCells};
+ghost use Rattle.fills.specs.Period.{PeriodFilled};
 
 // "Fills under method 1 only", by the states of the hours, and the first missing hour plus 1, by the masks: a line that lacks no hour has nothing to fill.
 pub fn fill_period(
@@ -20,9 +15,8 @@ pub fn fill_period(
     conc: &mut [u32],
     flow: &mut [u32],
 ) -> u32
-    ensures { λ r. ⌜ (r ≡ firstMissing (now (runs .entry)) (now (measured .entry)) days)
-        × (now (conc .exit) ≡ periodCells (isFilled method r days (now (conc .entry)) (now (flow .entry))) (take (hoursOfDay * days) (now (states .entry))) (now (conc .entry)))
-        × (now (flow .exit) ≡ periodCells (isFilled method r days (now (conc .entry)) (now (flow .entry))) (take (hoursOfDay * days) (now (states .entry))) (now (flow .entry))) ⌝ }
+    ensures { λ r. ⌜ PeriodFilled method days (now (runs .entry)) (now (measured .entry)) (now (states .entry)) (now (conc .entry)) (now (flow .entry))
+        (now (conc .exit)) (now (flow .exit)) r ⌝ }
 {
     let first = hours::first_missing(runs, measured, days);
     let room = lesser(2208, lesser(conc.len(), flow.len()));

@@ -30,17 +30,18 @@ returns c =
     let f = c .before .before .before .before in
     let t = f .before .before .before .before .before in
     let a = t .before .before .before .before .before .before .before .before .args in
-    let n = 24 * a .days in (
-      t .before .before .before .first-missing .ensures,
-      pick-true _ _ _ _ (on t) (part-filled (now (a .states)) (now (a .conc)) _ n (f .fill-gaps .ensures .0)),
-      pick-true _ _ _ _ (on t) (part-filled (now (a .states)) (now (a .flow)) _ n (f .fill-gaps .ensures .1)),
-    )
+    let n = 24 * a .days in
+    record {
+      first = t .before .before .before .first-missing .ensures;
+      concentrations = pick-true _ _ _ _ (on t) (part-filled (now (a .states)) (now (a .conc)) _ n (f .fill-gaps .ensures .0));
+      flows = pick-true _ _ _ _ (on t) (part-filled (now (a .states)) (now (a .flow)) _ n (f .fill-gaps .ensures .1));
+    }
 
 returns-2 : tie.Need-returns-2
 returns-2 c =
     let both = c .before in
     let off = sym (guard-is _ _ _ _ _ _ _ (both .before .lesser .ensures) (both .lesser2 .ensures)) ∙ c .if1 .left in
-    (both .before .before .first-missing .ensures, pick-false _ _ _ _ off refl, pick-false _ _ _ _ off refl)
+    record { first = both .before .before .first-missing .ensures; concentrations = pick-false _ _ _ _ off refl; flows = pick-false _ _ _ _ off refl }
 
 pub fill-period-spec : {M : Type 1} → statement M
 fill-period-spec =
