@@ -5,7 +5,7 @@ use Prim.Native.Nat.{ℕ, zero, suc, _+_, _*_, _<_, _≤_}
 use native.Mathlib.Nat.{mul-zero, mul-suc}
 use native.Mathlib.Numerals.{add-one}
 use native.Mathlib.Omega.{arith}
-use lib.ListN.{length, take, set, getD, length-append, length-set, length-take}
+use lib.ListN.{length, take, set, getD, length-append, length-set}
 use lib.Seq.{take-suc, take-length}
 use Rattle.text.specs.Written.{Wrote}
 use Rattle.text.proofs.Wrote.{wrote-none, wrote-byte, wrote-on, wrote-as}
@@ -44,10 +44,6 @@ module _ (old new : List ℕ) (at to x : ℕ) where
 
   pub u64-ends : Wrote old at (u64Bytes x) new to → to ≡ at + 8
   u64-ends w = omega (arith, w .ends, u64-sized x)
-
--- what is written fits
-pub wrote-within : (old bytes new : List ℕ) (to : ℕ) → Wrote old 0 bytes new to → to ≤ length new
-wrote-within old bytes new to w = omega (arith, w .ends, length-take to new, ap length (w .says))
 
 -- four writes, one behind the other
 pub wrote-joined : (a b c d e ws xs ys zs : List ℕ) (i j k l m : ℕ) → Wrote a i ws b j → Wrote b j xs c k → Wrote c k ys d l → Wrote d l zs e m

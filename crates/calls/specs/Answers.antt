@@ -1,14 +1,20 @@
 -- What the program writes for each of its three calls, by what the face promises.
-use Prim.Native.Nat.{ℕ, _+_, _%_, _^_}
+use Prim.Native.Nat.{ℕ, _+_, _%_, _^_, _≤_}
 use mathlib.Core.List.{List, [], _++_}
 use lib.ListN.{length, replicate}
 use lib.Dec.{eqb}
 use lib.Ieee.{Float, binary32, binary64, ofBits, toBits}
 use Rattle.law.specs.Words.{pick, table}
+use Rattle.text.specs.Written.{Wrote}
 use Rattle.rules.specs.Row.{concentrationCells, flowCells}
 use Rattle.rules.specs.Account.{answerOf, rowsAfter, workAfter}
 use Rattle.doarpezwim.specs.Faces.{answerCells, panelOf, faceStep}
 use Rattle.calls.specs.Bytes.{u32Bytes, u64Bytes, cellsBytes}
+
+-- bytes written at the start of a buffer that holds them all
+pub record Answered (bytes old new : List ℕ) (end : ℕ) : Type 0 where
+  pub wrote : Wrote old 0 bytes new end
+  pub within : end ≤ length new
 
 -- "row cell i, concentration cell i and flow cell i each hold (seed + i) mod 2^32"
 unfoldable pub lentCells : ℕ → ℕ → List ℕ

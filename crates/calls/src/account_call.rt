@@ -4,7 +4,7 @@ use crate::lent;
 ghost use Prim.Native.Nat.{_+_, _*_, _≤_, _<_};
 ghost use lib.ListN.{length};
 ghost use Rattle.text.specs.Written.{Wrote};
-ghost use Rattle.calls.specs.Answers.{lentCells, leftBytes, accountBytes};
+ghost use Rattle.calls.specs.Answers.{Answered, lentCells, leftBytes, accountBytes};
 
 // The answer's cells, and behind them every lent cell.
 fn put_left(
@@ -34,8 +34,8 @@ pub fn answer(
 ) -> usize
     requires { ⌜ (length (now rows) < 4_294_967_296) × (length (now concentration) < 4_294_967_296) × (length (now flow) < 4_294_967_296)
         × (48 + 8 * length (now rows) + 4 * length (now concentration) + 4 * length (now flow) ≤ length (now out)) ⌝ }
-    ensures { λ r. ⌜ Wrote (now (out .entry)) 0 (accountBytes (now (file .entry)) (lentCells seed (length (now (rows .entry))))
-        (lentCells seed (length (now (concentration .entry)))) (lentCells seed (length (now (flow .entry))))) (now (out .exit)) r ⌝ }
+    ensures { λ r. ⌜ Answered (accountBytes (now (file .entry)) (lentCells seed (length (now (rows .entry))))
+        (lentCells seed (length (now (concentration .entry)))) (lentCells seed (length (now (flow .entry))))) (now (out .entry)) (now (out .exit)) r ⌝ }
 {
     lent::fill_u64s(rows, seed);
     lent::fill_u32s(concentration, seed);

@@ -3,8 +3,6 @@ use crate::account_call;
 use crate::panel_call;
 use crate::survey_call;
 ghost use Prim.Native.Nat.{_≤_};
-ghost use mathlib.Core.Path.{_≡_};
-ghost use mathlib.Core.Bool.{true};
 ghost use lib.ListN.{length};
 
 // The six numbers of a header.
@@ -29,21 +27,17 @@ fn header_of(s: &[u8]) -> Header {
     }
 }
 
-// The n bytes behind a header; false where they are too many for the room or do not all come.
-fn read_bytes(file: &mut [u8], n: usize) -> bool
-    ensures { λ r. ⌜ (r ≡ true → n ≤ length (now (file .entry))) ⌝ }
-{
-    if file.len() < n {
-        return false;
-    }
-    let got = input::read_pieces(libc::STDIN_FILENO, &mut file[0..n], 1_000_000);
+// The bytes behind a header; false where they do not all come.
+fn read_bytes(bytes: &mut [u8]) -> bool {
+    let n = bytes.len();
+    let got = input::read_pieces(libc::STDIN_FILENO, bytes, 1_000_000);
     got.count == n
 }
 
-// The account's answer; 0 where the frame is larger than its room.
-fn account_frame(
+// The account's answer to a file; 0 where more cells are to be lent than there are.
+fn account_of(
     h: Header,
-    file: &mut [u8],
+    file: &[u8],
     rows: &mut [u64],
     concentration: &mut [u32],
     flow: &mut [u32],
@@ -51,7 +45,6 @@ fn account_frame(
 ) -> usize
     ensures { λ r. ⌜ r ≤ length (now (out .exit)) ⌝ }
 {
-    let n = h.a as usize;
     let r = h.b as usize;
     let c = h.c as usize;
     let l = h.d as usize;
@@ -67,11 +60,8 @@ fn account_frame(
     if out.len() < 48 + 8 * r + 4 * c + 4 * l {
         return 0;
     }
-    if !read_bytes(file, n) {
-        return 0;
-    }
     account_call::answer(
-        &file[0..n],
+        file,
         &mut rows[0..r],
         &mut concentration[0..c],
         &mut flow[0..l],
@@ -80,14 +70,38 @@ fn account_frame(
     )
 }
 
+// The account's answer; 0 where the frame is larger than its room.
+fn account_frame(
+    h: Header,
+    file: &mut [u8],
+    rows: &mut [u64],
+    concentration: &mut [u32],
+    flow: &mut [u32],
+    out: &mut [u8],
+) -> usize
+    ensures { λ r. ⌜ r ≤ length (now (out .exit)) ⌝ }
+{
+    let n = h.a as usize;
+    if file.len() < n {
+        return 0;
+    }
+    if !read_bytes(&mut file[0..n]) {
+        return 0;
+    }
+    account_of(h, &file[0..n], rows, concentration, flow, out)
+}
+
 // The answer of a panel's hour; 0 where the frame is larger than its room.
 fn panel_frame(h: Header, file: &mut [u8], out: &mut [u8]) -> usize
     ensures { λ r. ⌜ r ≤ length (now (out .exit)) ⌝ }
 {
+    if file.len() < 8 {
+        return 0;
+    }
     if out.len() < 20 {
         return 0;
     }
-    if !read_bytes(file, 8) {
+    if !read_bytes(&mut file[0..8]) {
         return 0;
     }
     let total = field::u64_at(file, 0);
@@ -100,10 +114,13 @@ fn survey_frame(h: Header, file: &mut [u8], out: &mut [u8]) -> usize
 {
     let e = h.a as usize;
     let n = e + h.b as usize;
+    if file.len() < n {
+        return 0;
+    }
     if out.len() < 18 {
         return 0;
     }
-    if !read_bytes(file, n) {
+    if !read_bytes(&mut file[0..n]) {
         return 0;
     }
     let hour = (h.c % 65_536) as u16;

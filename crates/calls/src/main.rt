@@ -6,6 +6,7 @@ mod frame;
 mod lent;
 mod panel_call;
 mod survey_call;
+
 ghost use Rattle.calls.specs.Sized.{Sized};
 
 // A proved loop has to end: it counts down from more frames than a run has.
@@ -36,5 +37,11 @@ fn main() {
     let mut concentration = [0u32; 4096];
     let mut flow = [0u32; 4096];
     let mut out = [0u8; 36_912];
-    answer_all(&mut file, &mut rows, &mut concentration, &mut flow, &mut out);
+    answer_all(
+        &mut file,
+        &mut rows,
+        &mut concentration,
+        &mut flow,
+        &mut out,
+    );
 }

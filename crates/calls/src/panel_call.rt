@@ -4,7 +4,7 @@ use crate::floats;
 ghost use Prim.Native.Nat.{_≤_};
 ghost use lib.ListN.{length};
 ghost use Rattle.text.specs.Written.{Wrote};
-ghost use Rattle.calls.specs.Answers.{stateBytes, panelBytes};
+ghost use Rattle.calls.specs.Answers.{Answered, stateBytes, panelBytes};
 
 // An hour's number, and the state after it.
 fn put_state(out: &mut [u8], number: u32, total: f64, hours: u32, missing: u32) -> usize
@@ -29,11 +29,18 @@ pub fn answer(
     out: &mut [u8],
 ) -> usize
     requires { ⌜ 20 ≤ length (now out) ⌝ }
-    ensures { λ r. ⌜ Wrote (now (out .entry)) 0 (panelBytes bits hours missing kind concentration flow) (now (out .exit)) r ⌝ }
+    ensures { λ r. ⌜ Answered (panelBytes bits hours missing kind concentration flow) (now (out .entry)) (now (out .exit)) r ⌝ }
 {
     let mut total = floats::f64_of(bits);
     let c = floats::f32_of(concentration);
     let l = floats::f32_of(flow);
-    let number = doarpezwim::doarpezwim_panel_hour(&mut total, &mut hours, &mut missing, kind, c, l);
+    let number = doarpezwim::doarpezwim_panel_hour(
+        &mut total,
+        &mut hours,
+        &mut missing,
+        kind,
+        c,
+        l,
+    );
     put_state(out, number, total, hours, missing)
 }

@@ -6,7 +6,7 @@ ghost use lib.ListN.{length};
 ghost use Rattle.text.specs.Written.{Wrote};
 ghost use Rattle.survey.specs.Governing.{governing};
 ghost use Rattle.calls.specs.Bytes.{u32Bytes};
-ghost use Rattle.calls.specs.Answers.{surveyBytes};
+ghost use Rattle.calls.specs.Answers.{Answered, surveyBytes};
 
 // A length, and the 14 bytes behind it.
 fn put_part(out: &mut [u8], n: u32, part: &[u8; 14]) -> usize
@@ -20,7 +20,7 @@ fn put_part(out: &mut [u8], n: u32, part: &[u8; 14]) -> usize
 // The call is made, and what it answers and leaves is written.
 pub fn answer<'a>(enforcement: &'a [u8], plant: &'a [u8], hour: u16, out: &mut [u8]) -> usize
     requires { ⌜ 18 ≤ length (now out) ⌝ }
-    ensures { λ r. ⌜ Wrote (now (out .entry)) 0 (surveyBytes (governing (enforcement .entry) (plant .entry) hour .bytes)) (now (out .exit)) r ⌝ }
+    ensures { λ r. ⌜ Answered (surveyBytes (governing (enforcement .entry) (plant .entry) hour .bytes)) (now (out .entry)) (now (out .exit)) r ⌝ }
 {
     let mut part = [0xaau8; 14];
     let n = doarpezwim::doarpezwim_governing_survey(enforcement, plant, hour, &mut part);

@@ -5,29 +5,18 @@ use Rattle.calls.proofs.Puts.{u32-sized, u64-sized, cells-ends, wrote-j
 use borrow.Author.Needs.{needs}
 use Rattle.calls.proofs.account_call.put_left.Statement.{statement}
 use Rattle.calls.proofs.account_call.put_left.Tie as tie
-use Rattle.calls.proofs.account_call.put_left.Reads as reads
-use Rattle.calls.proofs.account_call.put_left.Lts as lts
-use Rattle.calls.proofs.bytes.put_u32s.Reads as put-u32s-reads
-use Rattle.calls.proofs.bytes.put_u64s.Reads as put-u64s-reads
 
--- src/account_call.rt:20:9
-put-u64s-requires : tie.Need-put-u64s-requires
-put-u64s-requires c κs = search needs
-
--- src/account_call.rt:21:9
 put-u64s-requires-2 : tie.Need-put-u64s-requires-2
 put-u64s-requires-2 c κs =
     let a = c .before .before .before in
     omega (arith, a .put-u64s .kept .0, cells-ends _ 8 u64-sized _ _ _ _ _ (a .put-u64s .ensures))
 
--- src/account_call.rt:22:9
 put-u32s-requires : tie.Need-put-u32s-requires
 put-u32s-requires c κs =
     let r = c .before .before .before in
     let a = r .before .before .before .before in
     omega (arith, a .put-u64s .kept .0, cells-ends _ 8 u64-sized _ _ _ _ _ (a .put-u64s .ensures), r .put-u64s2 .kept .0, cells-ends _ 8 u64-sized _ _ _ _ _ (r .put-u64s2 .ensures))
 
--- src/account_call.rt:23:5
 put-u32s-requires-2 : tie.Need-put-u32s-requires-2
 put-u32s-requires-2 c κs =
     let l = c .before .before .before in
@@ -35,11 +24,6 @@ put-u32s-requires-2 c κs =
     let a = r .before .before .before .before in
     omega (arith, a .put-u64s .kept .0, cells-ends _ 8 u64-sized _ _ _ _ _ (a .put-u64s .ensures), r .put-u64s2 .kept .0, cells-ends _ 8 u64-sized _ _ _ _ _ (r .put-u64s2 .ensures), l .put-u32s .kept .0, cells-ends _ 4 u32-sized _ _ _ _ _ (l .put-u32s .ensures))
 
--- src/account_call.rt:10:1
-same-length : tie.Need-same-length
-same-length c = search needs
-
--- src/account_call.rt:10:1
 returns : tie.Need-returns
 unfolding leftBytes
 returns c =
@@ -53,9 +37,9 @@ pub put-left-spec : {M : Type 1} → statement M
 put-left-spec =
     tie.close
     (tie.spec
-    put-u64s-requires
+    (λ c κs. search needs)
     put-u64s-requires-2
     put-u32s-requires
     put-u32s-requires-2
-    same-length
+    (λ c. search needs)
     returns)

@@ -8,34 +8,18 @@ use Rattle.calls.proofs.Puts.{u32-ends, u64-ends, wrote-joined}
 use borrow.Author.Needs.{needs}
 use Rattle.calls.proofs.panel_call.put_state.Statement.{statement}
 use Rattle.calls.proofs.panel_call.put_state.Tie as tie
-use Rattle.calls.proofs.panel_call.put_state.Reads as reads
-use Rattle.calls.proofs.panel_call.put_state.Lts as lts
-use Rattle.calls.proofs.bytes.put_u32.Reads as put-u32-reads
-use Rattle.calls.proofs.bytes.put_u64.Reads as put-u64-reads
-use Rattle.calls.proofs.floats.bits_of.Reads as bits-of-reads
 
--- src/panel_call.rt:14:9
-bits-of-requires : tie.Need-bits-of-requires
-bits-of-requires c κs = search needs
-
--- src/panel_call.rt:15:9
-put-u32-requires : tie.Need-put-u32-requires
-put-u32-requires c κs = search needs
-
--- src/panel_call.rt:16:9
 put-u64-requires : tie.Need-put-u64-requires
 put-u64-requires c κs =
     let n = c .before .before .before in
     omega (arith, n .put-u32 .kept .0, u32-ends _ _ _ _ _ (n .put-u32 .ensures))
 
--- src/panel_call.rt:17:9
 put-u32-requires-2 : tie.Need-put-u32-requires-2
 put-u32-requires-2 c κs =
     let t = c .before .before .before in
     let n = t .before .before .before .before in
     omega (arith, n .put-u32 .kept .0, u32-ends _ _ _ _ _ (n .put-u32 .ensures), t .put-u64 .kept .0, u64-ends _ _ _ _ _ (t .put-u64 .ensures))
 
--- src/panel_call.rt:18:5
 put-u32-requires-3 : tie.Need-put-u32-requires-3
 put-u32-requires-3 c κs =
     let h = c .before .before .before in
@@ -43,11 +27,6 @@ put-u32-requires-3 c κs =
     let n = t .before .before .before .before in
     omega (arith, n .put-u32 .kept .0, u32-ends _ _ _ _ _ (n .put-u32 .ensures), t .put-u64 .kept .0, u64-ends _ _ _ _ _ (t .put-u64 .ensures), h .put-u322 .kept .0, u32-ends _ _ _ _ _ (h .put-u322 .ensures))
 
--- src/panel_call.rt:10:1
-same-length : tie.Need-same-length
-same-length c = search needs
-
--- src/panel_call.rt:10:1
 returns : tie.Need-returns
 unfolding stateBytes
 returns c =
@@ -64,10 +43,10 @@ pub put-state-spec : {M : Type 1} → statement M
 put-state-spec =
     tie.close
     (tie.spec
-    bits-of-requires
-    put-u32-requires
+    (λ c κs. search needs)
+    (λ c κs. search needs)
     put-u64-requires
     put-u32-requires-2
     put-u32-requires-3
-    same-length
+    (λ c. search needs)
     returns)
