@@ -70,7 +70,7 @@ fn account_of(
     )
 }
 
-// The account's answer; 0 where the frame is larger than its room.
+// The account's answer; 0 where the frame is larger than its room or cut short.
 fn account_frame(
     h: Header,
     file: &mut [u8],
@@ -91,7 +91,7 @@ fn account_frame(
     account_of(h, &file[0..n], rows, concentration, flow, out)
 }
 
-// The answer of a panel's hour; 0 where the frame is larger than its room.
+// The answer of a panel's hour; 0 where the frame is larger than its room or cut short.
 fn panel_frame(h: Header, file: &mut [u8], out: &mut [u8]) -> usize
     ensures { λ r. ⌜ r ≤ length (now (out .exit)) ⌝ }
 {
@@ -108,7 +108,7 @@ fn panel_frame(h: Header, file: &mut [u8], out: &mut [u8]) -> usize
     panel_call::answer(total, h.a, h.b, h.c, h.d, h.e, out)
 }
 
-// The governing survey's answer; 0 where the frame is larger than its room.
+// The governing survey's answer; 0 where the frame is larger than its room or cut short.
 fn survey_frame(h: Header, file: &mut [u8], out: &mut [u8]) -> usize
     ensures { λ r. ⌜ r ≤ length (now (out .exit)) ⌝ }
 {

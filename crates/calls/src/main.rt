@@ -23,14 +23,14 @@ fn answer_all(
     }
 }
 
-// Room for the bytes behind a header. A million zeros are too many for a proof to count, so their number is said here once.
+// Room for the bytes behind a header: a million zeros are too many for a proof to count, so their number is said here once.
 fn room() -> [u8; 1_000_000]
     ensures { λ r. ⌜ Sized 1_000_000 r ⌝ }
 {
     [0; 1_000_000]
 }
 
-// The room of a frame; the longest answer, six cells of an account with all that it lends, fits `out`.
+// The room of a frame. The longest answer fits `out`: six cells of eight bytes, and every cell that can be lent.
 fn main() {
     let mut file = room();
     let mut rows = [0u64; 512];
