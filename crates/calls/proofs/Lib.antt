@@ -1,0 +1,4 @@
+-- Numbers written as bytes, floats by their patterns, and the answer of each call.
+pub mod Puts
+pub mod Patterns
+pub mod Answers

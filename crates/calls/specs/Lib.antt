@@ -1,0 +1,4 @@
+-- The answers of the program's frames as bytes, and its room.
+pub mod Bytes
+pub mod Answers
+pub mod Sized

@@ -1,0 +1,181 @@
+// One frame: its header and its bytes read, its call made, its answer written.
+use crate::account_call;
+use crate::panel_call;
+use crate::survey_call;
+ghost use Prim.Native.Nat.{_≤_};
+ghost use lib.ListN.{length};
+
+// The six numbers of a header.
+struct Header {
+    call: u32,
+    a: u32,
+    b: u32,
+    c: u32,
+    d: u32,
+    e: u32,
+}
+
+// The numbers of a header's 24 bytes.
+fn header_of(s: &[u8]) -> Header {
+    Header {
+        call: field::u32_at(s, 0),
+        a: field::u32_at(s, 4),
+        b: field::u32_at(s, 8),
+        c: field::u32_at(s, 12),
+        d: field::u32_at(s, 16),
+        e: field::u32_at(s, 20),
+    }
+}
+
+// The bytes behind a header; false where they do not all come.
+fn read_bytes(bytes: &mut [u8]) -> bool {
+    let n = bytes.len();
+    let got = input::read_pieces(libc::STDIN_FILENO, bytes, 1_000_000);
+    got.count == n
+}
+
+// The account's answer to a file; 0 where more cells are to be lent than there are.
+fn account_of(
+    h: Header,
+    file: &[u8],
+    rows: &mut [u64],
+    concentration: &mut [u32],
+    flow: &mut [u32],
+    out: &mut [u8],
+) -> usize
+    ensures { λ r. ⌜ r ≤ length (now (out .exit)) ⌝ }
+{
+    let r = h.b as usize;
+    let c = h.c as usize;
+    let l = h.d as usize;
+    if rows.len() < r {
+        return 0;
+    }
+    if concentration.len() < c {
+        return 0;
+    }
+    if flow.len() < l {
+        return 0;
+    }
+    if out.len() < 48 + 8 * r + 4 * c + 4 * l {
+        return 0;
+    }
+    account_call::answer(
+        file,
+        &mut rows[0..r],
+        &mut concentration[0..c],
+        &mut flow[0..l],
+        h.e,
+        out,
+    )
+}
+
+// The account's answer; 0 where the frame is larger than its room or cut short.
+fn account_frame(
+    h: Header,
+    file: &mut [u8],
+    rows: &mut [u64],
+    concentration: &mut [u32],
+    flow: &mut [u32],
+    out: &mut [u8],
+) -> usize
+    ensures { λ r. ⌜ r ≤ length (now (out .exit)) ⌝ }
+{
+    let n = h.a as usize;
+    if file.len() < n {
+        return 0;
+    }
+    if !read_bytes(&mut file[0..n]) {
+        return 0;
+    }
+    account_of(h, &file[0..n], rows, concentration, flow, out)
+}
+
+// The answer of a panel's hour; 0 where the frame is larger than its room or cut short.
+fn panel_frame(h: Header, file: &mut [u8], out: &mut [u8]) -> usize
+    ensures { λ r. ⌜ r ≤ length (now (out .exit)) ⌝ }
+{
+    if file.len() < 8 {
+        return 0;
+    }
+    if out.len() < 20 {
+        return 0;
+    }
+    if !read_bytes(&mut file[0..8]) {
+        return 0;
+    }
+    let total = field::u64_at(file, 0);
+    panel_call::answer(total, h.a, h.b, h.c, h.d, h.e, out)
+}
+
+// The governing survey's answer; 0 where the frame is larger than its room or cut short.
+fn survey_frame(h: Header, file: &mut [u8], out: &mut [u8]) -> usize
+    ensures { λ r. ⌜ r ≤ length (now (out .exit)) ⌝ }
+{
+    let e = h.a as usize;
+    let n = e + h.b as usize;
+    if file.len() < n {
+        return 0;
+    }
+    if out.len() < 18 {
+        return 0;
+    }
+    if !read_bytes(&mut file[0..n]) {
+        return 0;
+    }
+    let hour = (h.c % 65_536) as u16;
+    survey_call::answer(&file[0..e], &file[e..n], hour, out)
+}
+
+// The answer by the call; 0 for an unknown one.
+fn answer_frame(
+    h: Header,
+    file: &mut [u8],
+    rows: &mut [u64],
+    concentration: &mut [u32],
+    flow: &mut [u32],
+    out: &mut [u8],
+) -> usize
+    ensures { λ r. ⌜ r ≤ length (now (out .exit)) ⌝ }
+{
+    let call = h.call;
+    match call {
+        1 => account_frame(h, file, rows, concentration, flow, out),
+        2 => panel_frame(h, file, out),
+        3 => survey_frame(h, file, out),
+        _ => 0,
+    }
+}
+
+// Why the program stops before the end of its input.
+fn stop(why: &[u8]) -> bool {
+    io::write_all(libc::STDERR_FILENO, why);
+    false
+}
+
+// One frame answered, by one write; false where the program is to end.
+pub fn next(
+    file: &mut [u8],
+    rows: &mut [u64],
+    concentration: &mut [u32],
+    flow: &mut [u32],
+    out: &mut [u8],
+) -> bool {
+    let mut header = [0u8; 24];
+    let got = input::read_pieces(libc::STDIN_FILENO, &mut header, 24);
+    if got.count < 24 {
+        if got.failed || got.count > 0 {
+            stop(b"calls: a header is cut short\n");
+        }
+        return false;
+    }
+    let h = header_of(&header);
+    let n = answer_frame(h, file, rows, concentration, flow, out);
+    if n == 0 {
+        return stop(b"calls: a frame is unknown, too large for its room or cut short\n");
+    }
+    if !io::write_all(libc::STDOUT_FILENO, &out[0..n]) {
+        return stop(b"calls: an answer could not be written\n");
+    }
+    true
+}
