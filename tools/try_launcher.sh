@@ -33,7 +33,7 @@ expect() { # CASE STATUS OUT WORDS COMMAND...
     if [ "$words" = proving ]; then cp "$room/all" "$room/err"; else grep -v ' proving and building ' "$room/all" >"$room/err"; fi
     [ "$got" -eq "$status" ] || fault="$fault; status $status is expected"
     cmp -s "$room/out" "$out" || fault="$fault; $(gist "$out") is expected to be printed"
-    if [ -z "$words" ]; then [ ! -s "$room/err" ]; else grep -qF -- "$words" "$room/err"; fi || fault="$fault; '$words' is expected to be said"
+    if [ -z "$words" ]; then [ ! -s "$room/err" ]; else grep -qF -- "$words" "$room/err"; fi || fault="$fault; '${words:-nothing}' is expected to be said"
     cases=$((cases + 1))
     [ -z "$fault" ] || wrong=$((wrong + 1))
     echo "$([ -z "$fault" ] && echo 'ok      ' || echo 'WRONG   ') $name: status $got, printed $(gist "$room/out"), said $(gist "$room/err")$fault"
@@ -49,6 +49,7 @@ no_stdin() { "$@" <&-; }
 no_stdout() { "$@" >&-; }
 no_stderr() { "$@" 2>&-; }
 no_rt() { (PATH=$room/tools "$@"); }
+other_kit() { (PATH=$room/kit:$PATH "$@"); }
 with_variables() { (export QEMU_STRACE=1 QEMU_ARGV0=x && "$@"); }
 reader_gone() { { "$@"; echo $? >"$room/status"; } | true; return "$(cat "$room/status")"; }
 four_at_once() {
@@ -80,8 +81,15 @@ LC_ALL=C sed "s/\$/$(printf '\r')/" samples/quarter.rec >"$room/crlf"
 { bytes "$example" 43 0 && printf '\001' && bytes "$example" 223 44; } >"$room/reading"
 { bytes "$example" 219 0 && printf '\014\0\003\0\027\0' && zeros 8 && bytes "$example" 223 219; } >"$room/stopped"
 { bytes "$example" 23 0 && zeros 196 && bytes "$example" 223 219; } >"$room/dark"
-{ bytes "$room/dark" 8 0 && printf '\004' && bytes "$room/dark" 219 9 && printf '\016\0\005\0\001' && zeros 11 && bytes "$room/dark" 223 219; } >"$room/boiler"
+{ bytes "$room/dark" 8 0 && printf '\004' && bytes "$room/dark" 219 9 && printf '\016\0\005\0\001' && zeros 11; } >"$room/boiler"
+bytes "$room/dark" 223 219 >>"$room/boiler"
 mkdir "$room/tools" && for tool in cat dirname readlink; do ln -s "$(command -v $tool)" "$room/tools"; done
+mkdir "$room/kit" && cat >"$room/kit/rt" <<END
+#!/bin/sh
+[ "\$1" != doc ] || exec echo /none/docs/START-HERE.md
+exec "$(command -v rt)" "\$@"
+END
+chmod +x "$room/kit/rt"
 
 # ---- figures stated
 expect "a quarter" 0 samples/quarter.out '' launch account samples/quarter.rec
@@ -127,6 +135,8 @@ no_answer "a reader that is gone" "could not be written" reader_gone launch acco
 no_answer "standard input closed" "standard input is closed" no_stdin launch account
 no_answer "standard output closed" "standard output is closed" no_stdout launch account "$example"
 no_answer "no toolchain" "the Rattle toolchain is not installed" no_rt launch account "$example"
+if [ "$(uname -m)" != x86_64 ]; then no_answer "a toolchain without its emulator" "no emulator" other_kit launch account "$example"
+else expect "a toolchain without its loader" 0 "$stated" '' other_kit launch account "$example"; fi
 
 # ---- usage
 expect "help" 0 "$usage_text" '' launch help
