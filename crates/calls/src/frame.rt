@@ -35,26 +35,22 @@ fn read_bytes(bytes: &mut [u8]) -> bool {
 }
 
 // The account's answer to a file; 0 where more cells are to be lent than there are.
-fn account_of(
-    h: Header,
-    file: &[u8],
-    rows: &mut [u64],
-    concentration: &mut [u32],
-    flow: &mut [u32],
-    out: &mut [u8],
-) -> usize
+fn account_of(h: Header, file: &[u8], out: &mut [u8]) -> usize
     ensures { λ r. ⌜ r ≤ length (now (out .exit)) ⌝ }
 {
+    let mut rows = [0u64; 512];
+    let mut concentration = [0u32; 4096];
+    let mut flow = [0u32; 4096];
     let r = h.b as usize;
     let c = h.c as usize;
     let l = h.d as usize;
-    if rows.len() < r {
+    if r > 512 {
         return 0;
     }
-    if concentration.len() < c {
+    if c > 4096 {
         return 0;
     }
-    if flow.len() < l {
+    if l > 4096 {
         return 0;
     }
     if out.len() < 48 + 8 * r + 4 * c + 4 * l {
@@ -71,14 +67,7 @@ fn account_of(
 }
 
 // The account's answer; 0 where the frame is larger than its room or cut short.
-fn account_frame(
-    h: Header,
-    file: &mut [u8],
-    rows: &mut [u64],
-    concentration: &mut [u32],
-    flow: &mut [u32],
-    out: &mut [u8],
-) -> usize
+fn account_frame(h: Header, file: &mut [u8], out: &mut [u8]) -> usize
     ensures { λ r. ⌜ r ≤ length (now (out .exit)) ⌝ }
 {
     let n = h.a as usize;
@@ -88,7 +77,7 @@ fn account_frame(
     if !read_bytes(&mut file[0..n]) {
         return 0;
     }
-    account_of(h, &file[0..n], rows, concentration, flow, out)
+    account_of(h, &file[0..n], out)
 }
 
 // The answer of a panel's hour; 0 where the frame is larger than its room or cut short.
@@ -128,19 +117,12 @@ fn survey_frame(h: Header, file: &mut [u8], out: &mut [u8]) -> usize
 }
 
 // The answer by the call; 0 for an unknown one.
-fn answer_frame(
-    h: Header,
-    file: &mut [u8],
-    rows: &mut [u64],
-    concentration: &mut [u32],
-    flow: &mut [u32],
-    out: &mut [u8],
-) -> usize
+fn answer_frame(h: Header, file: &mut [u8], out: &mut [u8]) -> usize
     ensures { λ r. ⌜ r ≤ length (now (out .exit)) ⌝ }
 {
     let call = h.call;
     match call {
-        1 => account_frame(h, file, rows, concentration, flow, out),
+        1 => account_frame(h, file, out),
         2 => panel_frame(h, file, out),
         3 => survey_frame(h, file, out),
         _ => 0,
@@ -154,13 +136,7 @@ fn stop(why: &[u8]) -> bool {
 }
 
 // One frame answered, by one write; false where the program is to end.
-pub fn next(
-    file: &mut [u8],
-    rows: &mut [u64],
-    concentration: &mut [u32],
-    flow: &mut [u32],
-    out: &mut [u8],
-) -> bool {
+pub fn next(file: &mut [u8], out: &mut [u8]) -> bool {
     let mut header = [0u8; 24];
     let got = input::read_pieces(libc::STDIN_FILENO, &mut header, 24);
     if got.count < 24 {
@@ -170,7 +146,7 @@ pub fn next(
         return false;
     }
     let h = header_of(&header);
-    let n = answer_frame(h, file, rows, concentration, flow, out);
+    let n = answer_frame(h, file, out);
     if n == 0 {
         return stop(b"calls: a frame is unknown, too large for its room or cut short\n");
     }

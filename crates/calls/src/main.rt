@@ -10,15 +10,9 @@ mod survey_call;
 ghost use Rattle.calls.specs.Sized.{Sized};
 
 // A proved loop has to end: it counts down from more frames than a run has.
-fn answer_all(
-    file: &mut [u8],
-    rows: &mut [u64],
-    concentration: &mut [u32],
-    flow: &mut [u32],
-    out: &mut [u8],
-) {
+fn answer_all(file: &mut [u8], out: &mut [u8]) {
     let mut left: u32 = 4_000_000_000;
-    while left > 0 && frame::next(file, rows, concentration, flow, out) {
+    while left > 0 && frame::next(file, out) {
         left -= 1;
     }
 }
@@ -33,15 +27,6 @@ fn room() -> [u8; 1_000_000]
 // The room of a frame. The longest answer fits `out`: six cells of eight bytes, and every cell that can be lent.
 fn main() {
     let mut file = room();
-    let mut rows = [0u64; 512];
-    let mut concentration = [0u32; 4096];
-    let mut flow = [0u32; 4096];
     let mut out = [0u8; 36_912];
-    answer_all(
-        &mut file,
-        &mut rows,
-        &mut concentration,
-        &mut flow,
-        &mut out,
-    );
+    answer_all(&mut file, &mut out);
 }

@@ -7,14 +7,13 @@ use Rattle.calls.proofs.answer_all.Statement.{statement}
 use Rattle.calls.proofs.answer_all.Tie as tie
 
 abbrev Inv-loop : tie.InvT-loop
-Inv-loop file₀ rows₀ concentration₀ flow₀ out₀ left₀ file rows concentration flow out left =
-    (length file ≡ length file₀) × (length rows ≡ length rows₀) × (length concentration ≡ length concentration₀) × (length flow ≡ length flow₀) × (length out ≡ length out₀)
+Inv-loop file₀ out₀ left₀ file out left = (length file ≡ length file₀) × (length out ≡ length out₀)
 
 abbrev μ-loop : tie.MeasureT-loop
-μ-loop file₀ rows₀ concentration₀ flow₀ out₀ left₀ file rows concentration flow out left = left
+μ-loop file₀ out₀ left₀ file out left = left
 
 loop-holds : tie.Need-loop-holds Inv-loop μ-loop
-loop-holds c = (refl, refl, refl, refl, refl)
+loop-holds c = (refl, refl)
 
 loop-less : tie.Need-loop-less Inv-loop μ-loop
 loop-less c = omega arith
@@ -29,12 +28,6 @@ answer-all-spec =
     (λ c κs. search needs)
     (λ c. search needs)
     loop-less
-    (λ c. search needs)
-    (λ c. search needs)
-    (λ c. search needs)
-    (λ c. search needs)
-    (λ c. search needs)
-    (λ c. search needs)
     (λ c. search needs)
     (λ c. search needs)
     (λ c. search needs)
