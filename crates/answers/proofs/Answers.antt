@@ -1,5 +1,5 @@
 -- What the number of an answer says of the file. Assumes nothing.
-use mathlib.Core.Path.{_≡_, refl, ap, sym, _∙_}
+use mathlib.Core.Path.{_≡_, refl, ap, sym, subst, _∙_}
 use mathlib.Core.Bool.{Bool, true, false}
 use mathlib.Core.List.{List, _++_}
 use Prim.Native.Nat.{ℕ, _*_, _≤_}
@@ -9,7 +9,9 @@ use lib.Dec.{leb}
 use borrow.Author.Tests.{leb-false}
 use Rattle.law.specs.Numbers.{rowCells, mostCells}
 use Rattle.law.specs.Words.{need}
+use Rattle.law.proofs.Tests.{need-case}
 use Rattle.rules.specs.declared.Answer.{Answer}
+use Rattle.rules.specs.declared.Fault.{Fault}
 use Rattle.rules.specs.Lines.{Line}
 use Rattle.rules.specs.Row.{rowsOf}
 use Rattle.rules.specs.Judge.{refuse}
@@ -57,3 +59,17 @@ module _ (file rows : List ℕ) (a : Answer) (rows' : List ℕ) where
       → (a .number ≡ 0 → ⊥) → Denied file a
   unfolding answerOf need
   denied conc flow conc' flow' p l w n = denied-by (outcome file) refl l (p .answers ∙ rw w) n
+
+  -- a claim on the number and place of acceptance, of 8, of 9 and of each fault of the file is one on the answer's
+  module _ (P : ℕ → ℕ → Type 0) (accepted : P 0 0) (eight : P 8 0) (nine : P 9 0) (each : (f : Fault) → outcome file ≡ Refused f → P (f .number) (f .place)) where
+    abbrev Of : Answer → Type 0
+    Of b = P (b .number) (b .place)
+
+    case-outcome : (lent : ℕ) (o : Outcome) → outcome file ≡ o → Of (answerFrom lent o)
+    unfolding answerFrom refusal acceptance refuse
+    case-outcome lent (Refused f) e = each f e
+    case-outcome lent (Accepted lines) e = need-case Of _ _ _ (λ _. eight) (λ _. accepted)
+
+    pub answer-case : (conc flow conc' flow' : List ℕ) → Promise file rows conc flow a rows' conc' flow' → P (a .number) (a .place)
+    unfolding answerOf refusal refuse
+    answer-case conc flow conc' flow' p = subst Of (sym (p .answers)) (need-case Of _ _ _ (λ _. nine) (λ _. case-outcome (length rows) (outcome file) refl))

@@ -4,3 +4,4 @@ pub mod Rows
 pub mod Answers
 pub mod Only
 pub mod Heads
+pub mod Places

@@ -22,6 +22,8 @@ use Rattle.rules.specs.Row.{concentrationCells, flowCells}
 use Rattle.rules.specs.Judge.{refuse}
 use Rattle.rules.specs.Account.{refusal, acceptance, answerOf, rowsAfter, workAfter}
 use Rattle.answers.proofs.Answers.{stated}
+use Rattle.answers.proofs.Places.{answer-points, never-three}
+use Rattle.answers.specs.Places.{ofField, PointsAt}
 use Rattle.answers.proofs.Only.{promise-only}
 use Rattle.panel.proofs.Runs.{run-exact, run-fits, run-good, run-value, run-accepts}
 use Rattle.survey.specs.Governing.{isSurvey, part, surveyOr, governing}
@@ -114,6 +116,13 @@ refuses c l z = omega arith
 alone : (v : Version) → RefusesAll v → EveryRowNear v × (Keeps v → ⊥)
 alone v r = ((λ c l z. absurd (r c l z)), λ k. let a = none-of-four v k .accepts in r (a .call) (a .lent) (a .number))
 
+-- ---- which field
+pointed : (c : Call) (r : Result) → Kept c r → (r .answer .number ≡ 3 → ⊥) × (ofField (r .answer .number) ≡ true → PointsAt (c .file) (r .answer .number) (r .answer .place))
+pointed c r k = (
+  never-three (c .file) (c .rows) (r .answer) (r .rows) (c .concentrations) (c .flows) (r .concentrations) (r .flows) k,
+  answer-points (c .file) (c .rows) (r .answer) (r .rows) (c .concentrations) (c .flows) (r .concentrations) (r .flows) k,
+)
+
 -- ---- readings
 sign-zero : (s : Bool) (m : ℕ) (e : ℤ) → allowed (fin s m e) ≡ true → s ≡ true → exact (fin s m e) ≡ 0
 unfolding allowed exact
@@ -161,6 +170,7 @@ demands =
       two = none-of-four;
       three = near;
       alone = ((refuser, refuses), alone);
+      places = pointed;
       readings = in-units;
       panel = panel-exact;
       survey = governs;

@@ -6,7 +6,7 @@ use denote.Ref.{RefT, ptr, now}
 use Rattle.law.specs.Numbers.{mostHours, rowCells}
 use Rattle.reading.specs.{declared.Hour.Hour, Reading.reading, Reading.allowed, Reading.exact}
 use Rattle.rules.specs.{declared.Head.Head, declared.Answer.Answer, Lines.Line, Grams.grams, Row.rowOf, Walk.Accepted, Walk.outcome, Account.Promise}
-use Rattle.answers.specs.Heads.{headsOf}
+use Rattle.answers.specs.{Heads.headsOf, Places.ofField, Places.PointsAt}
 use Rattle.allowance.specs.Allowance.{Near}
 use Rattle.panel.specs.{Lawful.asTotal, Panel.emptyPanel, Runs.after, Runs.products, Runs.missingHours, Runs.NoneRefused, Runs.NoneBad}
 use Rattle.survey.specs.Governing.{isSurvey, part, here, governing}
@@ -106,6 +106,8 @@ pub record Demands : Type 0 where
   pub three : (v : Version) → Keeps v → EveryRowNear v
   -- demand 3 alone lets every version through that refuses everything, and there is one; demand 2 lets none through
   pub alone : ((v : Version) × RefusesAll v) × ((v : Version) → RefusesAll v → EveryRowNear v × (Keeps v → ⊥))
+  -- WHICH FIELD (A1): no call is refused with 3; 4 and 14 to 17 point at the first field of the refused record that is out of range (read `PointsAt`)
+  pub places : (c : Call) (r : Result) → Kept c r → (r .answer .number ≡ 3 → ⊥) × (ofField (r .answer .number) ≡ true → PointsAt (c .file) (r .answer .number) (r .answer .place))
   -- every accepted reading is exactly a whole multiple of 2^-149, and none but minus zero is negative
   pub readings : (bits : ℕ) → allowed (reading bits) ≡ true → (sign : Bool) × HasValue (reading bits) sign (exact (reading bits)) (2 ^ 149) × (sign ≡ true → exact (reading bits) ≡ 0)
   -- THE PANEL, from the empty one over any list of hours

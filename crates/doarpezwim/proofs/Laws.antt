@@ -31,9 +31,9 @@ module _ (p : Panel) (kind : ℕ) (concentration flow : Float) where
   face s e =
       record { returns = ap (λ (x : Stepped). x .number) e; totalAfter = ap (λ (x : Stepped). x .next .total) e; hoursAfter = ap (λ (x : Stepped). x .next .hours) e; missingAfter = ap (λ (x : Stepped). x .next .missing) e }
 
-  pub no-kind : 2 < kind → PanelFace p kind concentration flow 3 (p .total) (p .hours) (p .missing)
+  pub no-kind : 2 < kind → PanelFace p kind concentration flow 15 (p .total) (p .hours) (p .missing)
   unfolding faceStep unchanged
-  no-kind h = face (unchanged 3 p) (need-not-le _ _ kind 2 h)
+  no-kind h = face (unchanged 15 p) (need-not-le _ _ kind 2 h)
 
   pub some-kind : kind ≤ 2 → (h : Hour) (s : Stepped) → h ≡ hourOfKind kind concentration flow → s ≡ panelStep p h → PanelFace p kind concentration flow (s .number) (s .next .total) (s .next .hours) (s .next .missing)
   unfolding faceStep

@@ -36,9 +36,9 @@ hourOfKind kind concentration flow = pick (eqb kind 0) Stopped (pick (eqb kind 1
 abbrev pub panelOf : Float → ℕ → ℕ → Panel
 panelOf total hours missing = record { total = total; hours = hours; missing = missing }
 
--- 3: a kind that is none of the three, before the state is looked at
+-- 15: a kind that is none of the three, "a wrong state", before the state is looked at
 unfoldable pub faceStep : Panel → ℕ → Float → Float → Stepped
-faceStep p kind concentration flow = need (unchanged 3 p) (leb kind 2) (panelStep p (hourOfKind kind concentration flow))
+faceStep p kind concentration flow = need (unchanged 15 p) (leb kind 2) (panelStep p (hourOfKind kind concentration flow))
 
 -- the promise of `doarpezwim_panel_hour`: the number that it returns, and the state that it leaves in the three cells
 pub record PanelFace (p : Panel) (kind : ℕ) (concentration flow : Float) (r : ℕ) (total' : Float) (hours' missing' : ℕ) : Type 0 where

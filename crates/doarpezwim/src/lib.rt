@@ -35,7 +35,7 @@ pub extern "C" fn doarpezwim_panel_hour(
         r (now (total .exit)) (now (hours .exit)) (now (missing .exit)) ⌝ }
 {
     if kind > 2 {
-        return 3;
+        return 15;
     }
     let p = Panel {
         total: *total,

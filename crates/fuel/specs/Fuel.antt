@@ -47,14 +47,14 @@ figureOf NoEntry kg sulphur ash = saysNo 7
 abbrev pub Ranged : ℕ → ℕ → ℕ → Type 0
 Ranged kg sulphur ash = (kg ≤ mostFuel) × (sulphur ≤ mostSulphur) × (ash ≤ mostFuel * mostAsh)
 
--- within it the figure; 3: "field .. or fuel sum out of range"
+-- within it the figure; 16: "a fuel field or the fuel sum"
 unfoldable pub fuelFigure : Head → ℕ → ℕ → ℕ → OnPaper
 fuelFigure h kg sulphur ash =
-    needAll (saysNo 3) (leb kg mostFuel ∷ leb sulphur mostSulphur ∷ leb ash (mostFuel * mostAsh) ∷ [])
+    needAll (saysNo 16) (leb kg mostFuel ∷ leb sulphur mostSulphur ∷ leb ash (mostFuel * mostAsh) ∷ [])
     (figureOf (coefficientsOf h) kg sulphur ash)
 
--- what an answer says on paper: the grams; no entry, as the tables say it; 3 out of range
+-- what an answer says on paper: the grams; no entry, as the tables say it; 16 out of range
 unfoldable pub fuelOnPaper : FuelFigure → OnPaper
 fuelOnPaper (Grams g) = says (g ∷ [])
 fuelOnPaper WithoutEntry = coefficientsOnPaper NoEntry
-fuelOnPaper OutOfRange = saysNo 3
+fuelOnPaper OutOfRange = saysNo 16

@@ -4,12 +4,12 @@ use mathlib.Core.Bool.{Bool, true, false, not}
 use mathlib.Core.List.{List}
 use mathlib.Core.Path.{_≡_, refl, sym, ap, _∙_}
 use native.Mathlib.Omega.{arith}
-use lib.ListN.{getD}
-use lib.Dec.{ltb}
+use lib.ListN.{getD, length}
+use lib.Dec.{leb, ltb}
 use borrow.Author.Tests.{leb-true, ltb-true, eqb-true, not-true}
 use Rattle.law.specs.Numbers.{hoursOfDay, mostDays, mostLines, mostSurveys, mostBatches, mostSulphur, mostAsh, mostFuel}
 use Rattle.law.specs.Words.{need}
-use Rattle.law.proofs.Tests.{pick-not-le}
+use Rattle.law.proofs.Tests.{pick-not-le, both-true}
 use Rattle.rules.specs.declared.Head.{Head}
 use Rattle.rules.specs.declared.Masks.{Masks}
 use Rattle.rules.specs.declared.Survey.{Survey}
@@ -20,28 +20,43 @@ use Rattle.rules.specs.declared.Fault.{Fault}
 use Rattle.rules.specs.declared.View.{View}
 use Rattle.rules.specs.declared.Coefficients.{Coefficients}
 use Rattle.rules.specs.declared.Coefficients.the-variants.{NoEntry}
-use Rattle.rules.specs.Records.{Day, dayOf, recordIn}
+use Rattle.rules.specs.Records.{headOf, masksOf, dayOf, surveyOf, batchOf, recordIn}
 use Rattle.rules.specs.Tables.{coefficientsOf}
 use Rattle.rules.specs.OnPaper.{recordOnPaper, coefficientsOnPaper}
-use Rattle.rules.specs.Judge.{refuse, fine, first, placeHead, rangeHead, placeDay, rangeMasks, blamed, judgePair, judgeBlank, judgeHour, judgeHours, surveysLeft, surveyTests, placeEnforcement, placePlant, judgeStopped, judgeSurvey, placeBatch, rangeBatch, judgeEntry, placeEnd, lineMethod, judgeFuel, judgeRecord, judgeReadings, judge}
-use Rattle.rules.proofs.Faults.{Stands, stands, stands-fine, stands-seek, Within, withins, within-fine, within-first, within-seek, first-goes, first-stops, passed, each-passed, both-passed}
-use Rattle.day.proofs.Hours.{pair-stands, hour-stands}
+use Rattle.rules.specs.Fields.{headFields, surveyFields, batchFields}
+use Rattle.rules.specs.Judge.{refuse, fine, first, firstWrong, placeHead, rangeHead, placeDay, rangeMasks, blamed, judgePair, judgeHours, surveysLeft, surveyTests, placeEnforcement, placePlant, judgeStopped, judgeSurvey, placeBatch, rangeBatch, judgeEntry, placeEnd, lineMethod, judgeFuel, judgeRecord, judgeReadings, judge}
+use Rattle.rules.proofs.Faults.{Stands, stands, stands-fine, stands-first, Within, withins, within-fine, within-first, first-goes, first-stops, passed, each-passed, both-passed}
+use Rattle.rules.proofs.Fields.{stands-wrong, within-wrong, each-fits, head-row, mask-row, reading-row, hours-stand, survey-row, batch-row}
+use Rattle.rules.proofs.Records.{record-case}
 use Rattle.day.proofs.Laws.{PairAccepted, pair-accepted}
 
 -- ---- a fault that refuses, or is fine
-pub record-stands : (v : View) (runs : List ℕ) (r : Record) → Stands (judgeRecord v runs r)
-unfolding judgeRecord rangeHead placeDay rangeMasks judgeSurvey judgeStopped rangeBatch judgeEntry judgeFuel
-record-stands v runs Bad = search stands
-record-stands v runs (OfHead h) = search stands depth 20
-record-stands v runs (OfDay d) = search stands depth 20
-record-stands v runs (OfEnforcement s) = search stands depth 20
-record-stands v runs (OfPlant s) = search stands depth 20
-record-stands v runs (OfBatch b) = search stands depth 20
-record-stands v runs OfEnd = search stands depth 20
+-- the fields of each kind, whatever they hold
+head-stands : (h : Head) → Stands (rangeHead h)
+unfolding rangeHead
+head-stands h = stands-wrong 14 (head-row h)
 
-hours-stand : (d : Day) → Stands (judgeHours d)
-unfolding judgeHours
-hours-stand d = stands-seek _ (judgeHour d) (hour-stands d) 0 hoursOfDay
+masks-stand : (m : Masks) → Stands (rangeMasks m)
+unfolding rangeMasks
+masks-stand m = stands-wrong 13 (mask-row m)
+
+survey-stands : (v : View) (runs : List ℕ) (s : Survey) → Stands (judgeSurvey v runs s)
+unfolding judgeSurvey judgeStopped
+survey-stands v runs s = search stands
+
+batch-stands : (v : View) (b : Batch) → Stands (rangeBatch v b)
+unfolding rangeBatch
+batch-stands v b = stands-wrong 16 (batch-row (v .fuel) b)
+
+pub record-stands : (v : View) (runs : List ℕ) (r : Record) → Stands (judgeRecord v runs r)
+unfolding judgeRecord judgeEntry judgeFuel
+record-stands v runs Bad = search stands
+record-stands v runs (OfHead h) = stands-first _ _ (head-stands h)
+record-stands v runs (OfDay m) = stands-first _ _ (masks-stand m)
+record-stands v runs (OfEnforcement s) = stands-first _ _ (survey-stands v runs s)
+record-stands v runs (OfPlant s) = stands-first _ _ (survey-stands v runs s)
+record-stands v runs (OfBatch b) = stands-first _ _ (batch-stands v b)
+record-stands v runs OfEnd = search stands depth 20
 
 pub readings-stand : (bytes : List ℕ) (r : Record) → Stands (judgeReadings bytes r)
 unfolding judgeReadings
@@ -53,30 +68,37 @@ readings-stand bytes (OfPlant s) = stands-fine
 readings-stand bytes (OfBatch b) = stands-fine
 readings-stand bytes OfEnd = stands-fine
 
--- ---- where a record is refused: within its bytes, however few
-pub record-within : (n : ℕ) (v : View) (runs : List ℕ) (r : Record) → Within n (judgeRecord v runs r)
-unfolding judgeRecord placeHead rangeHead placeDay rangeMasks placeEnforcement placePlant judgeSurvey judgePair judgeStopped placeBatch rangeBatch judgeEntry placeEnd judgeFuel
-record-within n v runs Bad = search withins
-record-within n v runs (OfHead h) = search withins depth 20
-record-within n v runs (OfDay d) = search withins depth 20
-record-within n v runs (OfEnforcement s) = search withins depth 20
-record-within n v runs (OfPlant s) = search withins depth 20
-record-within n v runs (OfBatch b) = search withins depth 20
-record-within n v runs OfEnd = search withins depth 20
+-- ---- where a record is refused: within its bytes
+within-more : (n m : ℕ) (f : Fault) → n ≤ m → Within n f → Within m f
+within-more n m f l w = omega (arith, l, w)
 
-hour-within : (n : ℕ) (d : Day) (h : ℕ) → Within n (judgeHour d h)
-unfolding judgeHour judgePair judgeBlank
-hour-within n d h = search withins depth 20
+survey-within : (v : View) (runs : List ℕ) (s : Survey) → Within 14 (judgeSurvey v runs s)
+unfolding judgeSurvey judgeStopped
+survey-within v runs s = within-first 14 _ _ (within-wrong 14 (survey-row (v .head .days) s)) (search withins)
 
-pub readings-within : (n : ℕ) (bytes : List ℕ) (r : Record) → Within n (judgeReadings bytes r)
+pub record-within : (v : View) (runs bytes : List ℕ) → Within (length bytes) (judgeRecord v runs (recordIn bytes))
+unfolding judgeRecord placeHead rangeHead placeDay rangeMasks placeEnforcement placePlant placeBatch rangeBatch judgeEntry placeEnd judgeFuel
+record-within v runs bytes =
+    record-case (λ (r : Record). Within (length bytes) (judgeRecord v runs r)) bytes
+    (search withins)
+    (λ l. within-first _ _ _ (search withins) (within-more _ _ (rangeHead (headOf bytes)) (l .1) (within-wrong 14 (head-row (headOf bytes)))))
+    (λ l. within-first _ _ _ (search withins) (within-more _ _ (rangeMasks (masksOf bytes)) (omega (arith, l .1)) (within-wrong 13 (mask-row (masksOf bytes)))))
+    (λ l. within-first _ _ _ (search withins) (within-more _ _ (judgeSurvey v runs (surveyOf bytes)) (l .1) (survey-within v runs (surveyOf bytes))))
+    (λ l. within-first _ _ _ (search withins) (within-more _ _ (judgeSurvey v runs (surveyOf bytes)) (l .1) (survey-within v runs (surveyOf bytes))))
+    (λ l. within-first _ _ _ (search withins) (within-more _ _ (rangeBatch v (batchOf bytes)) (l .1) (within-wrong 16 (batch-row (v .fuel) (batchOf bytes)))))
+    (λ _. search withins depth 20)
+
+pub readings-within : (bytes : List ℕ) → Within (length bytes) (judgeReadings bytes (recordIn bytes))
 unfolding judgeReadings judgeHours
-readings-within n bytes Bad = within-fine n
-readings-within n bytes (OfHead h) = within-fine n
-readings-within n bytes (OfDay d) = within-seek n _ (judgeHour (dayOf bytes)) (hour-within n (dayOf bytes)) 0 hoursOfDay
-readings-within n bytes (OfEnforcement s) = within-fine n
-readings-within n bytes (OfPlant s) = within-fine n
-readings-within n bytes (OfBatch b) = within-fine n
-readings-within n bytes OfEnd = within-fine n
+readings-within bytes =
+    record-case (λ (r : Record). Within (length bytes) (judgeReadings bytes r)) bytes
+    (within-fine _)
+    (λ _. within-fine _)
+    (λ l. within-more _ _ (judgeHours (dayOf bytes)) (l .1) (within-wrong 205 (reading-row (dayOf bytes))))
+    (λ _. within-fine _)
+    (λ _. within-fine _)
+    (λ _. within-fine _)
+    (λ _. within-fine _)
 
 -- ---- the record in bytes: what refuses it as it is read refuses it, and where nothing does its readings speak
 module _ (v : View) (runs bytes : List ℕ) (r : Record) (read : r ≡ recordIn bytes) (f : Fault) (judged : f ≡ judgeRecord v runs r) where
@@ -124,12 +146,14 @@ pub record EndOk (v : View) : Type 0 where
 
 module _ (v : View) where
   pub head-ok : (runs : List ℕ) (h : Head) → judgeRecord v runs (OfHead h) ≡ fine → HeadOk v h
-  unfolding judgeRecord placeHead rangeHead
+  unfolding judgeRecord placeHead rangeHead headFields
   head-ok runs h e =
       let both = both-passed (placeHead v h) (rangeHead h) (search stands) e in
       let p = each-passed 2 0 _ refl (both .0) in
-      let r = each-passed 3 0 _ refl (both .1) in
-      record { outside = not-true (v .inside) (p 0); room = ltb-true _ _ (p 2); pollutant-least = leb-true _ _ (r 0); pollutant-most = leb-true _ _ (r 1); days-most = leb-true _ _ (r 11) }
+      let r = each-fits 14 (head-row h) (both .1) in
+      let pollutant = both-true (leb 1 (h .pollutant)) (leb (h .pollutant) 3) (r 0) in
+      let days = both-true (leb 1 (h .days)) (leb (h .days) mostDays) (r 6) in
+      record { outside = not-true (v .inside) (p 0); room = ltb-true _ _ (p 2); pollutant-least = leb-true _ _ (pollutant .0); pollutant-most = leb-true _ _ (pollutant .1); days-most = leb-true _ _ (days .1) }
 
   pub day-ok : (runs : List ℕ) (m : Masks) → judgeRecord v runs (OfDay m) ≡ fine → DayOk v m
   unfolding judgeRecord placeDay
@@ -140,11 +164,11 @@ module _ (v : View) where
 
   -- a survey of either kind, by where it stands
   survey-ok : (runs : List ℕ) (floor : ℕ) (s : Survey) → ((i : ℕ) → getD (surveyTests v floor (s .hour)) i true ≡ true) → judgeSurvey v runs s ≡ fine → SurveyOk v s
-  unfolding judgeSurvey surveyTests surveysLeft
+  unfolding judgeSurvey surveyTests surveysLeft surveyFields firstWrong judgePair
   survey-ok runs floor s p e =
-      let a = passed 3 0 (ltb (s .hour) (hoursOfDay * v .head .days)) _ refl e in
-      let both = both-passed (judgePair (s .pair)) (judgeStopped runs (s .hour)) (pair-stands (s .pair)) (a .1) in
-      record { inside = p 0; days-done = eqb-true _ _ (p 1); room = ltb-true _ _ (p 4); in-period = ltb-true _ _ (a .0); pair = pair-accepted (s .pair) (both .0) }
+      let both = both-passed (firstWrong (surveyFields (v .head .days) s)) (judgeStopped runs (s .hour)) (stands-wrong 14 (survey-row (v .head .days) s)) e in
+      let a = passed 17 4 (ltb (s .hour) (hoursOfDay * v .head .days)) _ refl (both .0) in
+      record { inside = p 0; days-done = eqb-true _ _ (p 1); room = ltb-true _ _ (p 4); in-period = ltb-true _ _ (a .0); pair = pair-accepted 6 (s .pair) (a .1) }
 
   pub enforcement-ok : (runs : List ℕ) (s : Survey) → judgeRecord v runs (OfEnforcement s) ≡ fine → (v .plant .count ≡ 0) × SurveyOk v s
   unfolding judgeRecord placeEnforcement
@@ -160,12 +184,12 @@ module _ (v : View) where
       survey-ok runs (v .plant .floor) s (each-passed 2 0 _ refl (both .0)) (both .1)
 
   pub batch-ok : (runs : List ℕ) (b : Batch) → judgeRecord v runs (OfBatch b) ≡ fine → BatchOk v b
-  unfolding judgeRecord placeBatch rangeBatch
+  unfolding judgeRecord placeBatch rangeBatch batchFields
   batch-ok runs b e =
       let both = both-passed (placeBatch v) (rangeBatch v b) (search stands) e in
       let p = each-passed 2 0 _ refl (both .0) in
-      let r = each-passed 3 0 _ refl (both .1) in
-      record { inside = p 0; room = ltb-true _ _ (p 2); sulphur-most = leb-true _ _ (r 1); ash-most = leb-true _ _ (r 2); fuel-most = leb-true _ _ (r 3) }
+      let r = each-fits 16 (batch-row (v .fuel) b) (both .1) in
+      record { inside = p 0; room = ltb-true _ _ (p 2); sulphur-most = leb-true _ _ (r 1); ash-most = leb-true _ _ (r 2); fuel-most = leb-true _ _ (both-true (leb 1 (b .kg)) (leb (v .fuel + b .kg) mostFuel) (r 0) .1) }
 
   entry-ok : (entry : Coefficients) → judgeEntry entry ≡ fine → entry ≡ NoEntry → ⊥
   unfolding judgeEntry blamed need coefficientsOnPaper refuse fine

@@ -15,6 +15,19 @@ pub fn refuse_unless(number: u32, fits: bool) -> Fault
     Fault { number, place: 0 }
 }
 
+// The refusal of a field, at its offset, or what refuses the fields behind it.
+pub fn wrong_or(number: u32, offset: usize, fits: bool, behind: Fault) -> Fault
+    ensures { λ f. ⌜ f ≡ need (refuse number offset) fits behind ⌝ }
+{
+    if fits {
+        return behind;
+    }
+    Fault {
+        number,
+        place: offset,
+    }
+}
+
 // The first of two faults.
 pub fn first_of(f: Fault, g: Fault) -> Fault
     ensures { λ r. ⌜ r ≡ first f g ⌝ }

@@ -1,6 +1,7 @@
-// A survey judged: out of place 2, by its kind; then 3, 4, 5.
+// A survey judged: out of place 2, by its kind; then 17, 4, 5.
 use crate::faults::first_of;
 use crate::faults::refuse_unless;
+use crate::faults::wrong_or;
 use rules::Fault;
 use rules::Survey;
 use rules::View;
@@ -22,12 +23,10 @@ fn in_place(v: View, floor: u32, hour: u16) -> bool
 fn judge_survey(v: View, runs: &[u32], s: Survey) -> Fault
     ensures { λ f. ⌜ f ≡ judgeSurvey v (now (runs .entry)) s ⌝ }
 {
-    let pair = s.pair;
-    let past = refuse_unless(3, (s.hour as u32) < 24 * (v.head.days as u32));
-    let unfit = day::judge_pair(pair);
+    let unfit = day::judge_pair(6, s.pair);
+    let wrong = wrong_or(17, 4, (s.hour as u32) < 24 * (v.head.days as u32), unfit);
     let stopped = refuse_unless(5, hours::runs_at(runs, s.hour));
-    let later = first_of(unfit, stopped);
-    first_of(past, later)
+    first_of(wrong, stopped)
 }
 
 // Kind 3: no plant survey before it.
@@ -35,7 +34,9 @@ pub fn judge_enforcement(v: View, runs: &[u32], s: Survey) -> Fault
     ensures { λ f. ⌜ f ≡ first (placeEnforcement v s) (judgeSurvey v (now (runs .entry)) s) ⌝ }
 {
     let placed = (v.plant.count == 0) & in_place(v, v.enforcement.floor, s.hour);
-    first_of(refuse_unless(2, placed), judge_survey(v, runs, s))
+    let misplaced = refuse_unless(2, placed);
+    let wrong = judge_survey(v, runs, s);
+    first_of(misplaced, wrong)
 }
 
 // Kind 4.

@@ -7,10 +7,11 @@ use native.Mathlib.Omega.{arith}
 use lib.ListN.{getD}
 use lib.Dec.{eqb}
 use borrow.Author.Tests.{eqb-true, eqb-false}
-use Rattle.law.specs.Words.{need, needAll, pick, seek}
+use Rattle.law.specs.Words.{need, needAll, pick}
 use Rattle.law.proofs.Tests.{need-false, need-case, need-eq, need-not-eq, pick-case, all-passed}
 use Rattle.rules.specs.declared.Fault.{Fault}
-use Rattle.rules.specs.Judge.{refuse, fine, first, blamed, atPlace}
+use Rattle.rules.specs.Fields.{Field, fits}
+use Rattle.rules.specs.Judge.{refuse, fine, first, firstWrong, blamed, atPlace}
 
 by-first : (f g k : Fault) (t : Bool) → eqb (f .number) 0 ≡ t → first (need f t g) k ≡ need f t (first g k)
 unfolding first need
@@ -73,11 +74,6 @@ blamed-by number place false e = sym (first-refused number place fine e)
 pub stands-blamed : (number : ℕ) → Stands (blamed number)
 unfolding blamed
 stands-blamed number = blamed-by number 0 (eqb number 0) refl
-
-pub stands-seek : (hit : ℕ → Bool) (answer : ℕ → Fault) → ((h : ℕ) → Stands (answer h)) → (i n : ℕ) → Stands (seek hit answer fine i n)
-unfolding seek
-stands-seek hit answer a i zero = stands-fine
-stands-seek hit answer a i (suc n) = stands-pick (hit i) (answer i) (seek hit answer fine (suc i) n) (a i) (stands-seek hit answer a (suc i) n)
 
 pub ruleset stands = (stands-fine, stands-blamed, stands-need, stands-all, stands-pick, stands-first)
 
@@ -159,11 +155,6 @@ within-first n f g p q = need-case (Within n) f (eqb (f .number) 0) g (λ _. p) 
 pub within-blamed : (n number : ℕ) → Within n (blamed number)
 unfolding blamed
 within-blamed n number = within-need n number (eqb number 0) fine (within-fine n)
-
-pub within-seek : (n : ℕ) (hit : ℕ → Bool) (answer : ℕ → Fault) → ((h : ℕ) → Within n (answer h)) → (i m : ℕ) → Within n (seek hit answer fine i m)
-unfolding seek
-within-seek n hit answer a i zero = within-fine n
-within-seek n hit answer a i (suc m) = within-pick n (hit i) (answer i) (seek hit answer fine (suc i) m) (a i) (within-seek n hit answer a (suc i) m)
 
 pub ruleset withins = (within-fine, within-refuse, within-need, within-all, within-pick, within-first, within-blamed)
 

@@ -11,10 +11,11 @@ use Rattle.rules.specs.Tables.{at, q, k, class, tableA1, noClass, classO
 use Rattle.rules.specs.OnPaper.{recordOnPaper, coefficientsOnPaper}
 use Rattle.rules.specs.Grams.{valuesOf, slots, hourly, amount, automatic, surveyValues, manual, sulphurOf, fuelTop, fuelBottom, fuelGrams, grams}
 use Rattle.rules.specs.Row.{rowOf, rowsOf, totalOf, totalsOf, held, cells, concentrationCells, flowCells}
-use Rattle.rules.specs.Judge.{refuse, fine, first, key, placeHead, rangeHead, placeDay, straysOf, rangeMasks, blamed, judgePair, judgeBlank, judgeHour, judgeHours, surveysLeft, surveyTests, placeEnforcement, placePlant, judgeStopped, judgeSurvey, placeBatch, rangeBatch, judgeEntry, placeEnd, judgeFuel, judgeRecord, judgeReadings, judge, atPlace}
+use Rattle.rules.specs.Fields.{headFields, straysOf, maskFields, measuredFields, blankFields, hourFields, readingFields, surveyFields, batchFields}
+use Rattle.rules.specs.Judge.{refuse, fine, first, key, placeHead, firstWrong, rangeHead, placeDay, rangeMasks, blamed, judgePair, judgeHours, surveysLeft, surveyTests, placeEnforcement, placePlant, judgeStopped, judgeSurvey, placeBatch, rangeBatch, judgeEntry, placeEnd, judgeFuel, judgeRecord, judgeReadings, judge, atPlace}
 use Rattle.rules.specs.Walk.{floorOf, surveysOf, viewOf, runsOf, begun, withDay, withEnforcement, withPlant, withBatch, takenBetween, takenInside, taken, ended, faultOf, walk, outcome}
 use Rattle.rules.specs.Account.{refusal, acceptance, rowsFit, workFits, answerFrom, answerOf, rowsFrom, rowsAfter, cellsFrom, workAfter}
 
 unfoldable pub rules : Type 0
-unfolding fields readings headOf pairOf masksOf dayOf surveyOf batchOf bodyOf recordIn sizeIn recordsFrom recordsOf bit pairAt slotOf slotsOf runningOf missingOf running lacking runMasks measuredMasks runsAt lacksAt firstMissing surveyAt replaced replacedFrom hours hasSurvey besides surveyed surveys fuel isAutomatic isManual methodOf method run valids mapSlot entry entries zeroes cs ls window short long fill fillBoth meanUp same filled unfilled at q k class tableA1 noClass classOf isPulverised isGrate grateDust dustEntry oxidesEntry balanceOf oxidesOf dustOf coefficientsOf recordOnPaper coefficientsOnPaper valuesOf slots hourly amount automatic surveyValues manual sulphurOf fuelTop fuelBottom fuelGrams grams rowOf rowsOf totalOf totalsOf held cells concentrationCells flowCells refuse fine first key placeHead rangeHead placeDay straysOf rangeMasks blamed judgePair judgeBlank judgeHour judgeHours surveysLeft surveyTests placeEnforcement placePlant judgeStopped judgeSurvey placeBatch rangeBatch judgeEntry placeEnd judgeFuel judgeRecord judgeReadings judge atPlace floorOf surveysOf viewOf runsOf begun withDay withEnforcement withPlant withBatch takenBetween takenInside taken ended faultOf walk outcome refusal acceptance rowsFit workFits answerFrom answerOf rowsFrom rowsAfter cellsFrom workAfter
+unfolding fields readings headOf pairOf masksOf dayOf surveyOf batchOf bodyOf recordIn sizeIn recordsFrom recordsOf bit pairAt slotOf slotsOf runningOf missingOf running lacking runMasks measuredMasks runsAt lacksAt firstMissing surveyAt replaced replacedFrom hours hasSurvey besides surveyed surveys fuel isAutomatic isManual methodOf method run valids mapSlot entry entries zeroes cs ls window short long fill fillBoth meanUp same filled unfilled at q k class tableA1 noClass classOf isPulverised isGrate grateDust dustEntry oxidesEntry balanceOf oxidesOf dustOf coefficientsOf recordOnPaper coefficientsOnPaper valuesOf slots hourly amount automatic surveyValues manual sulphurOf fuelTop fuelBottom fuelGrams grams rowOf rowsOf totalOf totalsOf held cells concentrationCells flowCells headFields straysOf maskFields measuredFields blankFields hourFields readingFields surveyFields batchFields refuse fine first key placeHead firstWrong rangeHead placeDay rangeMasks blamed judgePair judgeHours surveysLeft surveyTests placeEnforcement placePlant judgeStopped judgeSurvey placeBatch rangeBatch judgeEntry placeEnd judgeFuel judgeRecord judgeReadings judge atPlace floorOf surveysOf viewOf runsOf begun withDay withEnforcement withPlant withBatch takenBetween takenInside taken ended faultOf walk outcome refusal acceptance rowsFit workFits answerFrom answerOf rowsFrom rowsAfter cellsFrom workAfter
 rules = Unit

@@ -22,7 +22,7 @@ use Rattle.rules.specs.Judge.{refuse, fine, first, judgeRecord, judgeReadings, 
 use Rattle.rules.specs.Row.{rowsOf, totalOf, totalsOf, cells, concentrationCells, flowCells}
 use Rattle.rules.specs.Walk.{Stand, Between, Inside, viewOf, runsOf, taken, ended, faultOf, walk, Refused, outcome}
 use Rattle.rules.proofs.Faults.{Stands, Within, stands-zero, at-place-number, at-place-refused}
-use Rattle.record.proofs.Laws.{size-some, record-whole}
+use Rattle.rules.proofs.Records.{size-some, record-whole}
 use Rattle.judge.proofs.Laws.{record-stands, record-within, readings-within, judge-refused, judge-passed, bad-refused}
 use Rattle.walk.specs.declared.books.Sums.{Sums}
 use Rattle.walk.specs.declared.take.Taken.{Taken}
@@ -145,7 +145,7 @@ module _ (file : List ℕ) (v : View) (s : Sums) (at : ℕ) (o : Open) (d : Done
     judged-here = judged ∙ ap (λ (l : List ℕ). judgeRecord v l r) (lent-stand (g .stand) v s o d (g .kept))
 
     pub refused-within : at + f .place ≤ length file
-    refused-within = in-file f (subst (Within (length bytes)) (sym judged-here) (record-within (length bytes) v (runsOf (g .stand)) r))
+    refused-within = in-file f (subst (Within (length bytes)) (sym (judged-here ∙ ap (judgeRecord v (runsOf (g .stand))) read)) (record-within v (runsOf (g .stand)) bytes))
 
     pub step-refused : (f .number ≡ 0 → ⊥) → (q : Progress) → q ≡ movedOn (record { fault = f; view = v; sums = s }) at (length file) (length file) → Reached file q o d × (at < q .at)
     unfolding pick
@@ -171,7 +171,7 @@ module _ (file : List ℕ) (v : View) (s : Sums) (at : ℕ) (o : Open) (d : Done
         mine = takes (g .stand) (ready .ready)
 
         pub taken-within : at + t .fault .place ≤ length file
-        taken-within = in-file (t .fault) (subst (Within (length bytes)) (sym (mine .faults)) (readings-within (length bytes) bytes r))
+        taken-within = in-file (t .fault) (subst (Within (length bytes)) (sym (mine .faults ∙ ap (judgeReadings bytes) read)) (readings-within bytes))
 
         later : t .fault ≡ judge v (runsOf (g .stand)) bytes
         later = mine .faults ∙ judge-passed v (runsOf (g .stand)) bytes r read f judged-here zero-f

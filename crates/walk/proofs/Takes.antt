@@ -26,7 +26,7 @@ use Rattle.law.proofs.Tests.{pick-case}
 use Rattle.rules.specs.Judge.{fine, lineMethod, judgeHours, judgeRecord, judgeReadings}
 use Rattle.rules.proofs.Faults.{Stands, stands-zero}
 use Rattle.rules.specs.Walk.{Stand, Between, Inside, viewOf, runsOf, taken, takenBetween, takenInside}
-use Rattle.record.proofs.Laws.{day-in}
+use Rattle.rules.proofs.Records.{day-in}
 use Rattle.day.proofs.Laws.{PairAccepted}
 use Rattle.judge.proofs.Laws.{SurveyOk, EndOk, readings-stand, head-ok, day-ok, enforcement-ok, plant-ok, batch-ok, end-ok, bad-refused}
 use Rattle.hours.proofs.Laws.{running-period, missing-period}
