@@ -1,13 +1,17 @@
 #!/usr/bin/env python3
 """The rules are run: the checker computes what the definitions print for record files, and compares with the stored answers.
 
-usage: tools/compute.py [--max BYTES] FILE.rec..        (beside each FILE.rec a FILE.out with what `account` must print)
+usage: tools/compute.py [--max BYTES] [--restated FILE].. FILE.rec..
+
+Beside each FILE.rec stands a FILE.out with what `account` must print, or a restated.txt has what it prints after a later request.
 
 No code of the account takes part. Each file becomes one statement, `printed FILE ≡ ANSWER`, proved by refl in a throwaway crate of a throwaway
 repository under target/compute/, which holds links to the rules and copies of the definition of `printed`. Larger files than BYTES (3000) are passed over.
 The last line says how many agree; the exit status is 0 only where all do.
 """
 import os, re, shutil, subprocess, sys, time
+
+import restated
 
 ROOT = os.path.dirname(os.path.dirname(os.path.abspath(__file__)))
 WORK = os.path.join(ROOT, 'target', 'compute')
@@ -48,28 +52,31 @@ def number(b):
     return '0x%x' % int.from_bytes(b, 'little')
 
 
-def module(files):
+def module(files, later):
     out = ['use Prim.Native.Nat.{ℕ, zero, suc, _/_, _%_}', 'use mathlib.Core.List.{List, [], _∷_}', 'use mathlib.Core.Path.{_≡_, refl}',
            'use Rattle.printed.specs.Program.{printed}', 'use Rattle.printed.specs.Opened.{prints}', '', '-- n bytes, the lowest first', 'unfoldable spread : ℕ → ℕ → List ℕ', 'spread zero x = []',
            'spread (suc n) x = x % 256 ∷ spread n (x / 256)', '']
     for i, f in enumerate(files):
-        x, y = open(f, 'rb').read(), open(f[:-4] + '.out', 'rb').read()
+        x, y = open(f, 'rb').read(), restated.answer(f, later)[0]
         out += ['-- ' + os.path.basename(f), 'f%d : printed (spread %d %s) ≡ spread %d %s' % (i, len(x), number(x), len(y), number(y)),
                 'unfolding spread prints', 'f%d = refl' % i, '']
     return '\n'.join(out)
 
 
 def main(args):
-    most, files = 3000, []
+    most, files, texts = 3000, [], []
     while args:
         a = args.pop(0)
         if a == '--max':
             most = int(args.pop(0))
+        elif a == '--restated':
+            texts.append(args.pop(0))
         else:
             files.append(a)
     if not files:
         sys.exit(__doc__)
     files = [f for f in files if os.path.getsize(f) <= most]
+    later = restated.read(texts)
     deps = listed()
     base = reached('rules', deps)
     shutil.rmtree(os.path.join(WORK, 'crates'), ignore_errors=True)
@@ -88,7 +95,7 @@ def main(args):
         write = lambda p, t: open(os.path.join(WORK, 'crates', c, p), 'w', encoding='utf-8').write(t)
         write('src/lib.rt', '// Computed.\n')
         write('specs/Lib.antt', 'pub mod Computed\n')
-        write('specs/Computed.antt', module(files[k:k + BATCH]))
+        write('specs/Computed.antt', module(files[k:k + BATCH], later))
         lines.append('%s: %s' % (c, ' '.join(base)))
     open(os.path.join(WORK, 'crates.txt'), 'w').write('\n'.join(lines) + '\n')
     start = time.time()
