@@ -40,10 +40,7 @@ fn darken(line: &mut Line) {
 fn stopped_survey(lines: &mut Vec<Line>, rng: &mut Rng) {
     let line = any(lines, rng);
     let hour = rng.below(24 * line.days.len());
-    let (day, bit) = (&mut line.days[hour / 24], 1 << (hour % 24));
-    day.run &= !bit;
-    day.measured &= !bit;
-    day.pairs[hour % 24] = (0.0, 0.0);
+    line.days[hour / 24].stop(hour % 24);
     let reading = if rng.chance(1, 4) { reading::wild(rng) } else { reading::concentration(rng) };
     let survey = Survey { hour: hour as u16, concentration: reading, flow: reading::flow(rng) };
     let surveys = if rng.chance(1, 2) { &mut line.enforcement } else { &mut line.plant };

@@ -7,6 +7,7 @@ mod case;
 mod census;
 mod damage;
 mod damage_bytes;
+mod damage_fields;
 mod damage_lines;
 mod damage_records;
 pub mod figures;
