@@ -10,6 +10,7 @@ mod damage_bytes;
 mod damage_fields;
 mod damage_lines;
 mod damage_records;
+mod field;
 pub mod figures;
 mod hours;
 mod outcome;
