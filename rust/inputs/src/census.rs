@@ -3,7 +3,7 @@
 use std::collections::BTreeMap;
 
 use crate::case::Case;
-use crate::field::{Field, Named, Spot};
+use crate::field::{Field, Named, Spot, wrong_in_record};
 use crate::outcome::Outcome;
 use crate::wire::Line;
 
@@ -78,6 +78,8 @@ pub struct Census {
     pub fields: BTreeMap<(Field, Spot), u64>,
     /// Two wrong fields of one record, of which the first is named.
     pub pairs: BTreeMap<(Field, Field), u64>,
+    /// Wrong fields of a record that is refused with 2, which comes before them.
+    pub misplaced: BTreeMap<Field, u64>,
 }
 
 impl Census {
@@ -88,8 +90,9 @@ impl Census {
         add_each(&mut self.numbers, &other.numbers);
         add_each(&mut self.methods, &other.methods);
         add_each(&mut self.fills, &other.fills);
-        other.fields.iter().for_each(|(&field, count)| *self.fields.entry(field).or_default() += count);
-        other.pairs.iter().for_each(|(&pair, count)| *self.pairs.entry(pair).or_default() += count);
+        add_entries(&mut self.fields, &other.fields);
+        add_entries(&mut self.pairs, &other.pairs);
+        add_entries(&mut self.misplaced, &other.misplaced);
     }
 
     /// Counts what a case has reached; fails where its outcome does not fit it.
@@ -108,6 +111,11 @@ impl Census {
                 Ok(())
             }
             _ if [4, 14, 15, 16, 17].contains(&number) => self.count_field(case, outcome),
+            _ if number == 2 => {
+                let wrong = wrong_in_record(outcome.place() as usize, &case.file);
+                wrong.into_iter().for_each(|field| *self.misplaced.entry(field).or_default() += 1);
+                Ok(())
+            }
             _ => Ok(()),
         }
     }
@@ -133,13 +141,23 @@ impl Census {
             let count = self.fields.get(&(field, spot)).copied().unwrap_or(0);
             (format!("number {} for {field:?}, {spot:?}", field.number()), count)
         });
-        numbers.into_iter().chain(methods).chain(fills).chain(fields).collect()
+        let misplaced = Field::ALL.into_iter().filter(|field| field.shows_alone()).map(|field| {
+            let count = self.misplaced.get(&field).copied().unwrap_or(0);
+            (format!("number 2 before {field:?}"), count)
+        });
+        numbers.into_iter().chain(methods).chain(fills).chain(fields).chain(misplaced).collect()
     }
 
     /// All pairs of wrong fields in one record that a run has to reach, and how often it did.
     pub fn reached_pairs(&self) -> Vec<(String, u64)> {
         let count = |pair| self.pairs.get(&pair).copied().unwrap_or(0);
         Field::pairs().map(|pair| (format!("{:?} before {:?}", pair.0, pair.1), count(pair))).collect()
+    }
+}
+
+fn add_entries<K: Copy + Ord>(counts: &mut BTreeMap<K, u64>, others: &BTreeMap<K, u64>) {
+    for (&key, other) in others {
+        *counts.entry(key).or_default() += other;
     }
 }
 

@@ -3,7 +3,7 @@
 use crate::reading;
 use crate::rng::Rng;
 use crate::sound::{self, MOST_FUEL};
-use crate::wire::{Batch, Day, Line, Survey};
+use crate::wire::{Batch, Day, Head, Line, Survey};
 
 type Fault = fn(&mut Line, &mut Rng);
 
@@ -39,8 +39,11 @@ fn any<'a, T>(records: &'a mut [T], rng: &mut Rng) -> &'a mut T {
 }
 
 fn head_fields(line: &mut Line, rng: &mut Rng) {
-    let head = &mut line.head;
-    for _ in 0..several(rng) {
+    spoil_head(&mut line.head, rng);
+}
+
+pub fn spoil_head(head: &mut Head, rng: &mut Rng) {
+    for _ in 0..rng.pick(&[1, 2, 2, 3]) {
         match rng.below(7) {
             0 => head.pollutant = wrong_code(3, rng),
             1 => head.required = rng.between(2, 255) as u8,
@@ -65,6 +68,10 @@ fn masks(line: &mut Line, rng: &mut Rng) {
     if rng.chance(1, 2) {
         spoil_hours(day, rng);
     }
+    spoil_masks(day, rng);
+}
+
+pub fn spoil_masks(day: &mut Day, rng: &mut Rng) {
     for _ in 0..several(rng) {
         match rng.below(4) {
             0 => day.run |= 1 << rng.between(24, 31),
@@ -82,11 +89,11 @@ fn readings(line: &mut Line, rng: &mut Rng) {
     spoil_hours(any(&mut line.days, rng), rng);
 }
 
-fn spoil_hours(day: &mut Day, rng: &mut Rng) {
+pub fn spoil_hours(day: &mut Day, rng: &mut Rng) {
     for _ in 0..several(rng) {
-        // The first hour and the last one are the ones that are counted wrong.
-        let hour = rng.between(1, 22);
-        let hour = rng.pick(&[0, hour, 23]);
+        // The ends are where a place goes wrong; the last hour is named only if none before it is at fault.
+        let middle = rng.between(1, 22);
+        let hour = rng.pick(&[0, middle, 23, 23]);
         spoil_hour(day, hour, rng);
     }
 }
@@ -115,7 +122,10 @@ fn batch_fields(line: &mut Line, rng: &mut Rng) {
     if line.batches.is_empty() {
         line.batches.push(sound::batch(1_000, rng));
     }
-    let batch = any(&mut line.batches, rng);
+    spoil_batch(any(&mut line.batches, rng), rng);
+}
+
+pub fn spoil_batch(batch: &mut Batch, rng: &mut Rng) {
     for _ in 0..several(rng) {
         match rng.below(4) {
             0 => batch.kg = 0,
@@ -174,7 +184,7 @@ fn survey_readings(line: &mut Line, rng: &mut Rng) {
 }
 
 /// Either or both readings.
-fn spoil_survey(survey: &mut Survey, rng: &mut Rng) {
+pub fn spoil_survey(survey: &mut Survey, rng: &mut Rng) {
     let wrong = (reading::refused_concentration(rng), reading::refused_flow(rng));
     let sound = (survey.concentration, survey.flow);
     (survey.concentration, survey.flow) = rng.pick(&[wrong, (wrong.0, sound.1), (sound.0, wrong.1)]);

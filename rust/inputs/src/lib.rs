@@ -1,6 +1,6 @@
 //! Inputs for the comparison tests, the valgrind run and the benchmark, all from fixed seeds.
 //!
-//! It knows the record file's shape, and nothing of how an account is computed.
+//! It knows the record file's shape and the ranges of its fields, and nothing of how an account is computed.
 #![forbid(unsafe_code)]
 
 mod case;
