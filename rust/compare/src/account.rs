@@ -85,25 +85,7 @@ pub fn compare_accounts(program: &Program, calls: impl Iterator<Item = AccountCa
         if let Some(difference) = outcome.difference(&call.expected()) {
             return Err(format!("{difference}; the file is {}", call.hex()));
         }
-        count(&call.case, &outcome, &mut census)
+        census.count(&call.case, &outcome)
     })?;
     Ok(census)
-}
-
-fn count(case: &Case, outcome: &Outcome, census: &mut Census) -> Result<(), String> {
-    let number = outcome.number();
-    census.inputs += 1;
-    census.bytes += case.file.len() as u64;
-    census.numbers[number as usize] += 1;
-    for row in outcome.stated() {
-        census.methods[row[2] as usize] += 1;
-    }
-    match &case.fills {
-        Some(_) if ![0, 8, 9].contains(&number) => Err(format!("a file was made sound and is refused: {number}")),
-        Some(fills) if number == 0 => {
-            census.count_fills(fills);
-            Ok(())
-        }
-        _ => Ok(()),
-    }
 }

@@ -1,6 +1,8 @@
-//! Faults done to a line as a whole: limits passed, surveys in stopped hours, fuel or tables wanting.
+//! Faults done to a line as a whole: limits passed, at times by a record that is wrong as well, surveys in stopped hours,
+//! fuel or tables wanting.
 #![allow(clippy::ptr_arg)]
 
+use crate::damage_fields::{spoil_batch, spoil_head, spoil_survey};
 use crate::reading;
 use crate::rng::Rng;
 use crate::sound;
@@ -40,10 +42,7 @@ fn darken(line: &mut Line) {
 fn stopped_survey(lines: &mut Vec<Line>, rng: &mut Rng) {
     let line = any(lines, rng);
     let hour = rng.below(24 * line.days.len());
-    let (day, bit) = (&mut line.days[hour / 24], 1 << (hour % 24));
-    day.run &= !bit;
-    day.measured &= !bit;
-    day.pairs[hour % 24] = (0.0, 0.0);
+    line.days[hour / 24].stop(hour % 24);
     let reading = if rng.chance(1, 4) { reading::wild(rng) } else { reading::concentration(rng) };
     let survey = Survey { hour: hour as u16, concentration: reading, flow: reading::flow(rng) };
     let surveys = if rng.chance(1, 2) { &mut line.enforcement } else { &mut line.plant };
@@ -81,6 +80,9 @@ fn too_many_surveys(lines: &mut Vec<Line>, rng: &mut Rng) {
     line.days.iter_mut().for_each(|day| day.run = 0xff_ffff);
     line.enforcement = surveys(first, hours.min(first + 120), rng);
     line.plant = surveys(0, (121 - line.enforcement.len()).min(hours + 1), rng);
+    if let Some(last) = line.plant.last_mut().filter(|_| rng.chance(1, 2)) {
+        spoil_survey(last, rng);
+    }
 }
 
 fn too_many_batches(lines: &mut Vec<Line>, rng: &mut Rng) {
@@ -88,6 +90,9 @@ fn too_many_batches(lines: &mut Vec<Line>, rng: &mut Rng) {
     let most = if rng.chance(1, 4) { 10_000_000_000 } else { 1_000 };
     line.batches = (0..rng.between(93, 95)).map(|_| sound::batch(1_000, rng)).collect();
     line.batches[92] = sound::batch(most, rng);
+    if rng.chance(1, 2) {
+        spoil_batch(&mut line.batches[92], rng);
+    }
 }
 
 /// Short lines up to the 49th, whose stacks and pollutants rise.
@@ -105,6 +110,9 @@ fn too_many_lines(lines: &mut Vec<Line>, rng: &mut Rng) {
     for number in 0..rng.between(48, 49) {
         line.head.stack = lines[0].head.stack.saturating_add(1 + number as u16);
         lines.push(line.clone());
+    }
+    if rng.chance(1, 2) {
+        spoil_head(&mut lines[48].head, rng);
     }
 }
 

@@ -2,8 +2,10 @@
 
 #![allow(clippy::ptr_arg)]
 
+use crate::damage_fields::{spoil_batch, spoil_head, spoil_hours, spoil_masks, spoil_survey};
 use crate::reading;
 use crate::rng::Rng;
+use crate::sound;
 use crate::wire::{Batch, Day, Head, Record, Survey};
 
 /// One type for all faults, although not each of them needs a whole `Vec`.
@@ -205,4 +207,45 @@ fn batch_field(records: &mut Vec<Record>, rng: &mut Rng) {
         1 => batch.sulphur = rng.pick(&[2_000, 2_001, u16::MAX]),
         _ => batch.ash = rng.pick(&[10_000, 10_001, u16::MAX]),
     }
+}
+
+/// A record that is wrong in itself, put in anywhere: mostly it is out of place too, which is judged before its fields.
+pub fn wrong_and_misplaced(records: &mut Vec<Record>, rng: &mut Rng) {
+    let wrong = match rng.below(4) {
+        0 => wrong_head(records, rng),
+        1 => wrong_day(records, rng),
+        2 => Some(wrong_survey(rng)),
+        _ => Some(wrong_batch(rng)),
+    };
+    if let Some(record) = wrong {
+        records.insert(rng.below(records.len() + 1), record);
+    }
+}
+
+fn wrong_head(records: &mut [Record], rng: &mut Rng) -> Option<Record> {
+    let mut head = *any_head(records, rng)?;
+    spoil_head(&mut head, rng);
+    Some(Record::Head(head))
+}
+
+fn wrong_day(records: &mut [Record], rng: &mut Rng) -> Option<Record> {
+    let mut day = *any_day(records, rng)?;
+    spoil_hours(&mut day, rng);
+    if rng.chance(1, 2) {
+        spoil_masks(&mut day, rng);
+    }
+    Some(Record::Day(Box::new(day)))
+}
+
+/// Half of them past every period.
+fn wrong_survey(rng: &mut Rng) -> Record {
+    let mut survey = sound::survey(rng.pick(&[0, 23, 2_208, u16::MAX]), rng);
+    spoil_survey(&mut survey, rng);
+    if rng.chance(1, 2) { Record::Enforcement(survey) } else { Record::Plant(survey) }
+}
+
+fn wrong_batch(rng: &mut Rng) -> Record {
+    let mut batch = sound::batch(1_000, rng);
+    spoil_batch(&mut batch, rng);
+    Record::Batch(batch)
 }

@@ -1,14 +1,16 @@
 //! Inputs for the comparison tests, the valgrind run and the benchmark, all from fixed seeds.
 //!
-//! It knows the record file's shape, and nothing of how an account is computed.
+//! It knows the record file's shape and the ranges of its fields, and nothing of how an account is computed.
 #![forbid(unsafe_code)]
 
 mod case;
 mod census;
 mod damage;
 mod damage_bytes;
+mod damage_fields;
 mod damage_lines;
 mod damage_records;
+mod field;
 pub mod figures;
 mod hours;
 mod outcome;

@@ -16,6 +16,10 @@ impl Outcome {
         self.answer[0]
     }
 
+    pub fn place(&self) -> u64 {
+        self.answer[1]
+    }
+
     /// The rows that the answer counts.
     pub fn stated(&self) -> impl Iterator<Item = &[u64]> {
         self.rows.chunks_exact(7).take(self.answer[2] as usize)

@@ -63,6 +63,34 @@ pub fn wild(rng: &mut Rng) -> f32 {
     }
 }
 
+/// Whether a concentration is accepted; minus zero is.
+pub fn allows_concentration(reading: f32) -> bool {
+    (0.0..=MOST_CONCENTRATION).contains(&reading)
+}
+
+/// Whether a flow is accepted; minus zero is.
+pub fn allows_flow(reading: f32) -> bool {
+    (0.0..=MOST_FLOW).contains(&reading)
+}
+
+pub fn refused_concentration(rng: &mut Rng) -> f32 {
+    refused(allows_concentration, rng)
+}
+
+pub fn refused_flow(rng: &mut Rng) -> f32 {
+    refused(allows_flow, rng)
+}
+
+/// The first wild reading that is not accepted.
+fn refused(allows: fn(f32) -> bool, rng: &mut Rng) -> f32 {
+    loop {
+        let reading = wild(rng);
+        if !allows(reading) {
+            return reading;
+        }
+    }
+}
+
 /// A reading whose bytes are not all zero.
 pub fn nonzero(rng: &mut Rng) -> f32 {
     f32::from_bits(match rng.below(3) {

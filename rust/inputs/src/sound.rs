@@ -5,7 +5,8 @@ use crate::reading;
 use crate::rng::Rng;
 use crate::wire::{Batch, Day, Head, Line, Survey};
 
-const MOST_FUEL: u64 = 10_000_000_000;
+/// Kg that a line may burn.
+pub const MOST_FUEL: u64 = 10_000_000_000;
 /// The edges of the size classes.
 const MEGAWATTS: [u16; 18] = [9, 10, 19, 20, 34, 35, 74, 75, 149, 150, 249, 250, 449, 450, 749, 750, 751, 65_535];
 

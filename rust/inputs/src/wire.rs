@@ -74,6 +74,13 @@ impl Day {
         self.measured &= !(1 << hour);
         self.pairs[hour] = (0.0, 0.0);
     }
+
+    /// Marks an hour as stopped.
+    pub fn stop(&mut self, hour: usize) {
+        self.run &= !(1 << hour);
+        self.measured &= !(1 << hour);
+        self.pairs[hour] = (0.0, 0.0);
+    }
 }
 
 impl Line {

@@ -86,7 +86,7 @@ impl<'a> Walk<'a> {
             let Record::Head(head) = record else {
                 return Err(Refusal::Place.at(place));
             };
-            let title = next_title(head, last, rows.len()).map_err(|refusal| refusal.at(place))?;
+            let title = next_title(head, last, rows.len()).map_err(|fault| fault.of_record_at(place))?;
             rows.push(self.line(&title, &mut line, tables)?);
             last = Some((head.stack, head.pollutant));
             hours = 24 * usize::from(title.days);
@@ -103,26 +103,26 @@ impl<'a> Walk<'a> {
             let Record::Day(day) = record else {
                 return Err(Refusal::Place.at(place));
             };
-            line.add_day(day, tables).map_err(|refusal| refusal.at(place))?;
+            line.add_day(day, tables).map_err(|fault| fault.of_record_at(place))?;
         }
         loop {
             let (place, record) = self.next_inside()?;
             let judged = match record {
-                Record::Head(_) | Record::Day(_) => Err(Refusal::Place),
+                Record::Head(_) | Record::Day(_) => Err(Refusal::Place.at_record()),
                 Record::Survey(survey) => line.add_survey(survey, tables),
                 Record::Batch(batch) => line.add_batch(batch),
                 Record::End => return line.row(title, tables).map_err(|refusal| refusal.at(place)),
             };
-            judged.map_err(|refusal| refusal.at(place))?;
+            judged.map_err(|fault| fault.of_record_at(place))?;
         }
     }
 }
 
 /// A head judged: lines rise and are at most 48, and the fields are in range.
-fn next_title(head: Head, last: Option<(u16, u8)>, lines: usize) -> Result<Title, Refusal> {
+fn next_title(head: Head, last: Option<(u16, u8)>, lines: usize) -> Result<Title, Fault> {
     let rises = last.is_none_or(|last| last < (head.stack, head.pollutant));
     if !rises || lines == MOST_LINES {
-        return Err(Refusal::Place);
+        return Err(Refusal::Place.at_record());
     }
     Title::judged(head)
 }

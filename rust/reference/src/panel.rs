@@ -49,7 +49,7 @@ impl Panel {
             Hour::Stopped => Ok(next),
             Hour::Missing => Ok(Panel { missing: self.missing + 1, ..next }),
             Hour::Measured(concentration, flow) => {
-                let values = Values::rounded(concentration, flow).ok_or(Refusal::Reading)?;
+                let values = Values::rounded(concentration, flow).map_err(|_| Refusal::Reading)?;
                 // A lawful total is a whole number that u64 holds, so that the limit is judged without rounding.
                 let total = self.total as u64 + values.product();
                 let within = total <= TWO_TO_53 as u64;

@@ -1,12 +1,11 @@
 //! The numbers that say no.
 
-/// A reason to refuse; its discriminant is the number of document 01.
+/// A reason to refuse; its discriminant is the number of document 01 and, from 14 on, of request A1. 3 is not given.
 #[derive(Clone, Copy, Debug, PartialEq, Eq)]
 #[repr(u32)]
 pub enum Refusal {
     Form = 1,
     Place = 2,
-    Range = 3,
     Reading = 4,
     Stopped = 5,
     NoBatch = 6,
@@ -17,6 +16,10 @@ pub enum Refusal {
     PanelFull = 11,
     Unlawful = 12,
     TooLong = 13,
+    HeadField = 14,
+    Mask = 15,
+    Fuel = 16,
+    PastPeriod = 17,
 }
 
 impl Refusal {
@@ -27,11 +30,23 @@ impl Refusal {
     pub(crate) fn at(self, place: usize) -> Fault {
         Fault { refusal: self, place }
     }
+
+    /// The record as a whole is at fault, not one of its fields.
+    pub(crate) fn at_record(self) -> Fault {
+        self.at(0)
+    }
 }
 
-/// A refusal together with the byte offset that it names.
+/// A refusal together with the byte offset that it names: in the record while that is judged, then in the file.
 #[derive(Clone, Copy, Debug, PartialEq, Eq)]
 pub(crate) struct Fault {
     pub refusal: Refusal,
     pub place: usize,
+}
+
+impl Fault {
+    /// The same fault for the file, in which its record starts at `record`.
+    pub fn of_record_at(self, record: usize) -> Self {
+        Fault { place: record + self.place, ..self }
+    }
 }
