@@ -4,4 +4,7 @@ pub mod Rows
 pub mod Answers
 pub mod Only
 pub mod Heads
+pub mod Silent
+pub mod Wrong
 pub mod Places
+pub mod Three

@@ -22,7 +22,8 @@ use Rattle.rules.specs.Row.{concentrationCells, flowCells}
 use Rattle.rules.specs.Judge.{refuse}
 use Rattle.rules.specs.Account.{refusal, acceptance, answerOf, rowsAfter, workAfter}
 use Rattle.answers.proofs.Answers.{stated}
-use Rattle.answers.proofs.Places.{answer-points, never-three}
+use Rattle.answers.proofs.Places.{answer-points}
+use Rattle.answers.proofs.Three.{never-three}
 use Rattle.answers.specs.Places.{ofField, PointsAt}
 use Rattle.answers.proofs.Only.{promise-only}
 use Rattle.panel.proofs.Runs.{run-exact, run-fits, run-good, run-value, run-accepts}

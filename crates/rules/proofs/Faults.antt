@@ -1,5 +1,5 @@
 -- Faults in a row: the first of them, and what it says that there is none. Assumes nothing.
-use Prim.Native.Nat.{ℕ, zero, suc, _+_, _≤_}
+use Prim.Native.Nat.{ℕ, _+_, _≤_}
 use mathlib.Core.Bool.{Bool, true, false}
 use mathlib.Core.List.{List, [], _∷_}
 use mathlib.Core.Path.{_≡_, refl, sym, ap, ap₂, _∙_}
@@ -10,8 +10,7 @@ use borrow.Author.Tests.{eqb-true, eqb-false}
 use Rattle.law.specs.Words.{need, needAll, pick}
 use Rattle.law.proofs.Tests.{need-false, need-case, need-eq, need-not-eq, pick-case, all-passed}
 use Rattle.rules.specs.declared.Fault.{Fault}
-use Rattle.rules.specs.Fields.{Field, fits}
-use Rattle.rules.specs.Judge.{refuse, fine, first, firstWrong, blamed, atPlace}
+use Rattle.rules.specs.Judge.{refuse, fine, first, blamed, atPlace}
 
 by-first : (f g k : Fault) (t : Bool) → eqb (f .number) 0 ≡ t → first (need f t g) k ≡ need f t (first g k)
 unfolding first need
@@ -85,14 +84,6 @@ pub passed : (number place : ℕ) (t : Bool) (f : Fault) → eqb number 0 ≡ fa
 unfolding need refuse fine
 passed number place true f e h = (refl, h)
 passed number place false f e h = absurd (refuses (eqb number 0) e (ap (λ (x : Fault). eqb (x .number) 0) h))
-
-pass-by : (number place : ℕ) (t : Bool) → eqb number 0 ≡ t → need (refuse number place) t fine ≡ fine → t ≡ true
-pass-by number place true e h = refl
-pass-by number place false e h = passed number place false fine e h .0
-
-pub none-blamed : (number : ℕ) → blamed number ≡ fine → eqb number 0 ≡ true
-unfolding blamed
-none-blamed number h = pass-by number 0 (eqb number 0) refl h
 
 pub each-passed : (number place : ℕ) (ts : List Bool) → eqb number 0 ≡ false → needAll (refuse number place) ts fine ≡ fine → (i : ℕ) → getD ts i true ≡ true
 unfolding refuse fine

@@ -2,7 +2,7 @@
 use mathlib.Core.Path.{_≡_, refl, _∙_, sym, ap, subst}
 use mathlib.Core.Bool.{Bool, true, false, true≢false, not}
 use mathlib.Core.List.{List, []}
-use Prim.Native.Nat.{ℕ, zero, suc, _+_, _-_, _*_, _<_, _≤_}
+use Prim.Native.Nat.{ℕ, zero, suc, _+_, _-_, _<_, _≤_}
 use native.Mathlib.Omega.{arith}
 use lib.ListN.{length, take, drop, replicate, getD, length-drop, length-replicate, getD-replicate}
 use lib.Dec.{eqb}
@@ -15,13 +15,13 @@ use Rattle.rules.specs.declared.Fault.{Fault}
 use Rattle.rules.specs.declared.Record.{Record}
 use Rattle.rules.specs.declared.Record.the-variants.{Bad}
 use Rattle.rules.specs.declared.View.{View}
-use Rattle.rules.specs.Records.{Placed, recordIn, sizeIn, recordsFrom, recordsOf}
+use Rattle.rules.specs.Records.{recordIn, sizeIn, recordsFrom, recordsOf}
 use Rattle.rules.specs.OnPaper.{recordOnPaper}
 use Rattle.rules.proofs.OnPaper.{record-only}
 use Rattle.rules.specs.Judge.{refuse, fine, first, judgeRecord, judgeReadings, judge, atPlace}
 use Rattle.rules.specs.Row.{rowsOf, totalOf, totalsOf, cells, concentrationCells, flowCells}
 use Rattle.rules.specs.Walk.{Stand, Between, Inside, viewOf, runsOf, taken, ended, faultOf, walk, Refused, outcome}
-use Rattle.rules.proofs.Faults.{Stands, Within, stands-zero, at-place-number, at-place-refused}
+use Rattle.rules.proofs.Faults.{Within, stands-zero, at-place-number}
 use Rattle.rules.proofs.Records.{size-some, record-whole}
 use Rattle.judge.proofs.Laws.{record-stands, record-within, readings-within, judge-refused, judge-passed, bad-refused}
 use Rattle.walk.specs.declared.books.Sums.{Sums}
@@ -30,7 +30,7 @@ use Rattle.walk.specs.declared.turns.Progress.{Progress}
 use Rattle.walk.specs.declared.turns.Tally.{Tally}
 use Rattle.walk.specs.Views.{atStart, movedOn, foundOf}
 use Rattle.walk.specs.Books.{noRows, Open, inOpen, Done, inDone, Kept}
-use Rattle.walk.specs.Walking.{Ready, SomeReady, Took, Takes, Going, Reached, Ended, WalkPromise}
+use Rattle.walk.specs.Walking.{SomeReady, Took, Takes, Going, Reached, Ended, WalkPromise}
 use Rattle.walk.proofs.Cleared.{replicate-zero, cells-past}
 use Rattle.walk.proofs.Views.{view-start}
 

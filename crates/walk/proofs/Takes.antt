@@ -16,14 +16,13 @@ use Rattle.rules.specs.declared.View.{View}
 use Rattle.rules.specs.declared.Coefficients.{Coefficients}
 use Rattle.rules.specs.declared.Coefficients.the-variants.{Balance, Oxides, Dust, NoEntry}
 use Rattle.rules.specs.Grams.{sulphurOf}
-use Rattle.rules.specs.Records.{masksOf, dayOf, recordIn}
 use Rattle.rules.specs.Hours.{runMasks, measuredMasks, runsAt, firstMissing, running, lacking}
 use Rattle.rules.specs.Lines.{Line, surveys, fuel}
 use Rattle.rules.specs.Method.{isAutomatic, isManual, methodOf, method}
 use Rattle.rules.specs.Tables.{coefficientsOf}
 use lib.Dec.{eqb}
 use Rattle.law.proofs.Tests.{pick-case}
-use Rattle.rules.specs.Judge.{fine, lineMethod, judgeHours, judgeRecord, judgeReadings}
+use Rattle.rules.specs.Judge.{fine, lineMethod, judgeRecord, judgeReadings}
 use Rattle.rules.proofs.Faults.{Stands, stands-zero}
 use Rattle.rules.specs.Walk.{Stand, Between, Inside, viewOf, runsOf, taken, takenBetween, takenInside}
 use Rattle.rules.proofs.Records.{day-in}

@@ -54,8 +54,8 @@ pub fn stepped(step: &Step) -> Stepped {
 }
 
 /// Holds every step against the reference; gives how often each number was answered.
-pub fn compare_steps(program: &Program, steps: impl Iterator<Item = Step> + Send) -> Result<[u64; 14], String> {
-    let mut numbers = [0; 14];
+pub fn compare_steps(program: &Program, steps: impl Iterator<Item = Step> + Send) -> Result<[u64; 18], String> {
+    let mut numbers = [0; 18];
     feed(program, steps, |step, answer| {
         let expected = stepped(&step);
         if answer != expected {

@@ -98,6 +98,7 @@ fn says_how_to_get_the_program() {
 fn has_a_header_of_this_version() {
     assert!(HEADER.contains(&format!("#define DOARPEZWIM_VERSION \"{}\"", env!("CARGO_PKG_VERSION"))));
     let (_, refusals) = HEADER.split_once("enum doarpezwim_refusal {").expect("the header has the numbers");
-    let mut places = (0..=13).map(|number| refusals.find(&format!(" = {number},")).expect("each number is named"));
+    let given = (0..=17).filter(|&number| number != 3);
+    let mut places = given.map(|number| refusals.find(&format!(" = {number},")).expect("each number is named"));
     assert!(places.by_ref().is_sorted());
 }

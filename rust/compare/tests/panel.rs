@@ -18,7 +18,7 @@ fn agrees_on_generated_steps() {
     let numbers = agreed(compare_steps(&calls(), steps));
     let text = format!("panel: {STEPS} steps agree; by number {numbers:?}\n");
     std::io::stderr().write_all(text.as_bytes()).expect("a standard error");
-    for number in [0, 3, 4, 10, 11, 12] {
+    for number in [0, 4, 10, 11, 12, 15] {
         assert!(numbers[number] >= LEAST, "number {number} was hardly reached");
     }
 }
