@@ -1,0 +1,169 @@
+# The words for the place of a refusal: which record and which field it is, of which stack and pollutant, and what is wrong with it.
+#
+# usage: od -A n -v -t u1 FILE | awk -v number=N -v place=OFFSET -f tools/words.awk
+# Prints one line, or nothing where FILE has no such fault at that place. Any POSIX awk will do: large numbers go by %.0f, and none through int().
+
+BEGIN {
+    size = 0
+    split("12 203 12 12 14 2", length_of)
+    split("head,day record,enforcement survey,plant survey,fuel batch,end record", name_of, ",")
+    split("sulphur dioxide,nitrogen oxides,dust", pollutant_of, ",")
+}
+
+{ for (i = 1; i <= NF; i++) byte[size++] = $i + 0 }
+
+END { if (find() && (words = said()) != "") print words }
+
+# ---- the way to the place
+
+function u16(p) { return byte[p] + 256 * byte[p + 1] }
+function u32(p) { return u16(p) + 65536 * u16(p + 2) }
+function u64(p) { return u32(p) + 4294967296 * u32(p + 4) }
+function bit(p, n) { return int(byte[p + int(n / 8)] / 2 ^ (n % 8)) % 2 }
+
+# Goes from record to record up to the one that has the place: all before it are sound, or the file is not the one that was accounted.
+function find() {
+    head = -1
+    for (at = 0; at < place; at += 2 + length_of[kind]) {
+        kind = u16(at + 2)
+        if (!whole()) return 0
+        if (place < at + 2 + length_of[kind]) return number == 4 || number >= 14
+        pass()
+    }
+    kind = u16(at + 2)
+    return number < 8 && number != 4
+}
+
+function is_survey() { return kind == 3 || kind == 4 }
+function whole() { return kind in length_of && u16(at) == length_of[kind] && at + 2 + length_of[kind] <= size }
+
+function pass() {
+    before = record()
+    if (kind == 1) { head = at; open = 1; fuel = batches = 0 }
+    if (kind == 5) { fuel += u64(at + 4); batches++ }
+    if (kind == 6) open = 0
+}
+
+# ---- which record
+
+function line(p) { return "stack " u16(p + 4) (byte[p + 6] in pollutant_of ? ", pollutant " byte[p + 6] " (" pollutant_of[byte[p + 6]] ")" : "") }
+
+# A record that is cut short may lack what it is named by.
+function record(   hour) {
+    hour = u16(at + 4)
+    if (kind == 2 && at + 5 <= size) return "day record of day " byte[at + 4]
+    if (is_survey() && at + 6 <= size) return name_of[kind] " at hour " hour " of the period (day " int(hour / 24) ", hour " hour % 24 ")"
+    return name_of[kind] (kind == 5 ? " number " (batches + 1) : "")
+}
+
+function whose() {
+    if (kind == 1 && at + 7 <= size) return line(at)
+    return open ? line(head) : "outside any line"
+}
+
+function after() { return head < 0 ? ", at the file's start" : ", after the " before (open ? "" : " of " line(head)) }
+
+# ---- what is wrong
+
+function said(   wrong) {
+    if (number == 1) return no_record()
+    if (number == 2) return out_of_place()
+    if (place == at) return whole() && (number == 5 ? is_survey() : kind == 6) ? whose() ", " record() boiler() : ""
+    wrong = field(place - at)
+    return wrong == "" ? "" : whose() ", " record() ": " wrong
+}
+
+function no_record(   left) {
+    left = size - at
+    if (left < 1 || whole()) return ""
+    if (left < 4) return whose() after() ": no more than " left (left == 1 ? " byte is" : " bytes are") " left there, and a record has at least 4"
+    if (!(kind in length_of)) return whose() after() ": its kind would be " kind ", and must be 1 to 6"
+    if (u16(at) != length_of[kind]) return whose() ", " record() ": its length is " u16(at) ", and must be " length_of[kind]
+    return whose() ", " record() ": the file has only " left " of its " (2 + length_of[kind]) " bytes"
+}
+
+function out_of_place() {
+    if (at == size && open) return line(head) ", the file's end" after()
+    return whole() ? whose() ", " record() after() : ""
+}
+
+function boiler() {
+    return number != 7 ? "" : ": furnace " byte[head + 8] ", coal " byte[head + 9] ", " u16(head + 10) " MW, volatile mark " byte[head + 12]
+}
+
+function field(o) {
+    if (number == 14 && kind == 1) return head_field(o)
+    if (number == 15 && kind == 2) return mask(o)
+    if (number == 16 && kind == 5) return fuel_field(o)
+    if (number == 17 && is_survey() && o == 4) return range("its hour", u16(place), 0, 24 * byte[head + 13] - 1, ", as the head's days are " byte[head + 13])
+    if (number == 4 && kind == 2) return hour_reading(o - 13)
+    if (number == 4 && is_survey() && (o == 6 || o == 10)) return reading(o == 10)
+    return ""
+}
+
+function range(name, value, least, most, why) {
+    if (value >= least && value <= most) return ""
+    return name " is " value ", and must be " least (most == least + 1 ? " or " : " to ") most why
+}
+
+function head_field(o) {
+    if (o == 6) return range("pollutant", byte[place], 1, 3)
+    if (o == 7) return range("automatic required", byte[place], 0, 1)
+    if (o == 8) return range("furnace", byte[place], 1, 4)
+    if (o == 9) return range("coal", byte[place], 1, 7)
+    if (o == 10) return range("MW", u16(place), 9, 65535)
+    if (o == 12) return range("volatile mark", byte[place], 1, 4)
+    return o == 13 ? range("number of days", byte[place], 1, 92) : ""
+}
+
+# The bits of a mask from one on up to another; with a run mask given, those that it has not.
+function bits(from, to, run,   n, list) {
+    for (n = from; n < to; n++) if (bit(place, n) && !(run && bit(run, n))) list = list " " n
+    return list
+}
+
+function mask(o,   name, list) {
+    if (o != 5 && o != 9) return ""
+    name = o == 5 ? "run mask" : "measured mask"
+    if ((list = bits(24, 32)) != "") return "of the " name " these bits are set, and only bits 0 to 23 are hours:" list
+    if (o == 9 && (list = bits(0, 24, at + 5)) != "") return "the measured mask has hours that the run mask has not:" list
+    return ""
+}
+
+function fuel_field(o) {
+    if (o == 4) return kilograms(u64(place))
+    if (o == 12) return range("sulphur, in 0.01 %,", u16(place), 0, 2000)
+    return o == 14 ? range("ash, in 0.01 %,", u16(place), 0, 10000) : ""
+}
+
+function kilograms(kg) {
+    if (kg == 0) return "kg is 0, and must be at least 1"
+    if (fuel + kg <= 10000000000) return ""
+    return "kg is " count(kg) ", which takes the line's fuel over 10,000,000,000 kg; before it there are " count(fuel) " kg"
+}
+
+# Past 2^53 awk no longer counts by one.
+function count(n) { return n < 9007199254740992 ? sprintf("%.0f", n) : "9,007,199,254,740,992 or more" }
+
+function hour_reading(o,   hour, what) {
+    hour = int(o / 8)
+    if (o < 0 || o % 4) return ""
+    if (bit(at + 9, hour)) return (what = reading(o % 8 == 4)) == "" ? "" : "hour " hour " is measured, and its " what
+    if (u32(place) == 0) return ""
+    return "hour " hour " is not measured but " (bit(at + 5, hour) ? "missing" : "stopped") ", and its " quantity(o % 8 == 4) " has bytes other than zero"
+}
+
+function quantity(is_flow) { return is_flow ? "flow" : "concentration" }
+
+# A measured reading that is not allowed: from its exact value, with no int(), which some awks limit.
+function reading(is_flow,   name, exponent, rest, value, unit) {
+    name = quantity(is_flow) " is "
+    exponent = byte[place + 3] % 128 * 2 + bit(place, 23)
+    rest = u16(place) + byte[place + 2] % 128 * 65536
+    if (exponent == 255) return name (rest ? "not a number" : "infinite")
+    value = exponent ? (8388608 + rest) * 2 ^ (exponent - 150) : rest * 2 ^ -149
+    unit = is_flow ? " m3/h" : " mg/m3"
+    if (byte[place + 3] > 127 && value) return name "negative: " sprintf("%.9g", -value) unit
+    if (is_flow ? value < 5000000.5 : value * 100 < 1000000.5) return ""
+    return name sprintf("%.9g", value) unit ", and must be at most " (is_flow ? "5,000,000" : "10,000.00") " after rounding"
+}
