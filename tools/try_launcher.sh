@@ -39,10 +39,20 @@ expect() { # CASE STATUS OUT WORDS COMMAND...
     echo "$([ -z "$fault" ] && echo 'ok      ' || echo 'WRONG   ') $name: status $got, printed $(gist "$room/out"), said $(gist "$room/err")$fault"
 }
 refused() { printf 'refused %s %s\n' "$2" "$3" >"$room/refused" && expect "$1" 1 "$room/refused" "$4" launch account "$5"; } # CASE N PLACE WORDS FILE
+# A field at fault, OFFSET's bytes in BASE made BYTES (octal, \0ooo): by its name, as standard input, and through a pipe.
+field() { # CASE BASE OFFSET BYTES N PLACE WORDS
+    change "$2" "$3" "$4" >"$room/changed"
+    refused "$1" "$5" "$6" "$7" "$room/changed"
+    expect "$1, by -" 1 "$room/refused" "$7" launch account - <"$room/changed"
+    expect "$1, through a pipe" 1 "$room/refused" "$7" in_two "$room/changed" launch account
+}
 no_answer() { name=$1 words=$2 && shift 2 && expect "$name" 2 /dev/null "$words" "$@"; } # CASE WORDS COMMAND...
 
 # ways to run a command
 in_pieces() { { head -c 100 && sleep 1 && cat; } <samples/quarter.rec | "$@"; }
+in_two() { file=$1 && shift && { head -c 9 && cat; } <"$file" | "$@"; }
+endless() { yes | "$@"; }
+by_fifo() { mkfifo "$room/fifo" && { cat "$room/coal" >"$room/fifo" & } && "$@" "$room/fifo"; }
 from() { (cd "$1" && shift && "$@"); }
 to_full_disk() { "$@" >/dev/full; }
 no_stdin() { "$@" <&-; }
@@ -50,6 +60,17 @@ no_stdout() { "$@" >&-; }
 no_stderr() { "$@" 2>&-; }
 no_rt() { (PATH=$room/tools "$@"); }
 other_kit() { (PATH=$room/kit:$PATH "$@"); }
+broken() { (PATH=$room/$1:$PATH && shift && "$@"); }
+temporary() { (export TMPDIR="$1" && shift && "$@"); }
+# Says what stays behind in the folder for temporary files.
+left_behind() { mkdir -p "$room/tmp" && temporary "$room/tmp" "$@"; got=$? && ls -A "$room/tmp" >&2 && return $got; }
+killed() { # SIGNAL: the launcher, while it waits for more of its input
+    mkfifo "$room/$1" && { ${shell:+"$shell"} "$launcher" account <"$room/$1" & } && exec 7>"$room/$1"
+    head -c 9 "$example" >&7 && sleep 3 && kill -s "$1" $! && wait $! 2>/dev/null
+    got=$?
+    exec 7>&-
+    return $got
+}
 with_variables() { (export QEMU_STRACE=1 QEMU_ARGV0=x && "$@"); }
 reader_gone() { { "$@"; echo $? >"$room/status"; } | true; return "$(cat "$room/status")"; }
 four_at_once() {
@@ -69,17 +90,27 @@ at_terminal() {
 # ---- files
 bytes() { head -c "$2" "$1" | tail -c +$(($3 + 1)); } # FILE TO FROM: its bytes from FROM up to TO
 zeros() { head -c "$1" /dev/zero; }
+# BASE with BYTES at OFFSET
+change() { bytes "$1" "$2" 0 && printf '%b' "$3" && tail -c +$(($2 + $(printf '%b' "$3" | wc -c) + 1)) "$1"; } # BASE OFFSET BYTES
+before_end() { bytes "$example" 219 0 && printf '%b' "$1" && bytes "$example" 223 219; } # BYTES: the example with these records
 example=$home/samples/example.rec stated=$home/samples/example.out
-printf 'total 0 0 0\n' >"$room/zero.out"
+printf 'total 0 0 0\n' >"$room/zero.out" && printf 'refused 14 9\n' >"$room/coal.out"
 usage_text=$room/usage.out && launch help >"$usage_text"
 : >"$room/empty" && cp "$example" "$room/a name.rec" && cp "$example" "$room/-name.rec" && mkdir "$room/folder"
 ln -s "$launcher" "$room/a link" && ln -s "a link" "$room/link"
 { cat crates/account/stdin && printf x; } >"$room/65537"
 head -c 100 "$example" >"$room/cut" && head -c 219 "$example" >"$room/open"
 LC_ALL=C sed "s/\$/$(printf '\r')/" samples/quarter.rec >"$room/crlf"
-{ bytes "$example" 6 0 && printf '\004' && bytes "$example" 223 7; } >"$room/field"
-{ bytes "$example" 43 0 && printf '\001' && bytes "$example" 223 44; } >"$room/reading"
-{ bytes "$example" 219 0 && printf '\014\0\003\0\027\0' && zeros 8 && bytes "$example" 223 219; } >"$room/stopped"
+quarter=$home/samples/quarter.rec one="stack 1, pollutant 2 (nitrogen oxides)" seven="stack 7, pollutant 1 (sulphur dioxide), day record of day"
+day="$one, day record of day 0" batch="$one, fuel batch number" survey="$one, enforcement survey at hour" plant="$one, plant survey at hour"
+not_found="the field of a head at byte 9 (the first byte is 0)"
+pair='\000\000\0240\0101\000\044\0164\0111' # 20 mg/m3 and 1,000,000 m3/h
+before_end "\014\000\003\000\027\000$pair" >"$room/stopped"
+before_end "\014\000\003\000\000\000$pair\014\000\004\000\001\000$pair" >"$room/surveys"
+# 9,999,999,999 kg and 1 kg
+before_end '\016\000\005\000\0377\0343\013\0124\002\000\000\000\000\000\000\000\016\000\005\000\001\000\000\000\000\000\000\000\000\000\000\000' >"$room/fuel"
+change "$example" 9 '\011' >"$room/coal" && change "$example" 18 '\001' >"$room/turn" && cat "$example" "$example" >"$room/twice"
+before_end '\014\000\007\000' >"$room/kind" && change "$example" 14 '\0315' >"$room/length" && { cat "$example" && echo; } >"$room/feed"
 { bytes "$example" 23 0 && zeros 196 && bytes "$example" 223 219; } >"$room/dark"
 { bytes "$room/dark" 8 0 && printf '\004' && bytes "$room/dark" 219 9 && printf '\016\0\005\0\001' && zeros 11; } >"$room/boiler"
 bytes "$room/dark" 223 219 >>"$room/boiler"
@@ -90,6 +121,14 @@ mkdir "$room/kit" && cat >"$room/kit/rt" <<END
 exec "$(command -v rt)" "\$@"
 END
 chmod +x "$room/kit/rt"
+for tool in awk od; do # gone for the words alone, since rt needs them too
+    mkdir "$room/no $tool" && cat >"$room/no $tool/$tool" <<END
+#!/bin/sh
+case "\$*" in *words.awk* | *65537*) exit 127 ;; esac
+exec $(command -v $tool) "\$@"
+END
+    chmod +x "$room/no $tool/$tool"
+done
 
 # ---- figures stated
 expect "a quarter" 0 samples/quarter.out '' launch account samples/quarter.rec
@@ -111,19 +150,70 @@ expect "four at once" 0 "$room/four.out" '' four_at_once launch account "$exampl
 if command -v script >/dev/null; then expect "a terminal" 0 "$room/zero.out" "waiting for a record file" at_terminal
 else skip "a terminal" "there is no program script here"; fi
 
-# ---- refusals
-refused "a cut file" 1 14 "cut short" "$room/cut"
+# ---- refusals of a record or a file
+refused "a cut file" 1 14 "$one, day record of day 0: the file has only 86 of its 205 bytes" "$room/cut"
 refused "a text" 1 0 "no record file at all" README.md
-refused "a last line not closed" 2 219 "byte 219" "$room/open"
-refused "a pollutant 4" 3 0 "out of its range" "$room/field"
-refused "bytes in a missing hour" 4 14 "in an hour not measured" "$room/reading"
-refused "line ends turned to CR LF" 4 14 "byte 14" "$room/crlf"
-refused "a survey in a stopped hour" 5 219 "stopped" "$room/stopped"
-refused "fuel, and no batch" 6 219 "no fuel batch" "$room/dark"
-refused "fuel, and no table entry" 7 235 "no entry for its boiler" "$room/boiler"
+refused "an unknown kind" 1 219 "$one, after the day record of day 0: its kind would be 7, and must be 1 to 6" "$room/kind"
+refused "a wrong length" 1 14 "$one, day record of day 0: its length is 205, and must be 203" "$room/length"
+refused "a line feed at the end" 1 223 "after the end record of $one: no more than 1 byte is left there" "$room/feed"
+refused "a last line not closed" 2 219 "$one, the file's end, after the day record of day 0" "$room/open"
+refused "a day out of turn" 2 14 "$one, day record of day 1, after the head" "$room/turn"
+refused "a file put behind itself" 2 223 "$one, head, after the end record of $one" "$room/twice"
+refused "a survey in a stopped hour" 5 219 "$one, enforcement survey at hour 23 of the period (day 0, hour 23)" "$room/stopped"
+refused "fuel, and no batch" 6 219 "$one, end record" "$room/dark"
+refused "fuel, and no table entry" 7 235 "$one, end record: furnace 4, coal 4, 300 MW, volatile mark 1" "$room/boiler"
 refused "65,537 bytes" 13 0 "65,536 bytes" "$room/65537"
 refused "a file for the library" 13 0 "65,536 bytes" samples/over.rec
+expect "input without end" 1 samples/over.out "65,536 bytes" endless launch account
 expect "a refusal, standard error closed" 1 samples/over.out '' no_stderr launch account samples/over.rec
+
+# ---- refusals of a field
+field "pollutant 4" "$example" 6 '\004' 14 6 "stack 1, head: pollutant is 4, and must be 1 to 3"
+field "automatic required 2" "$example" 7 '\002' 14 7 "$one, head: automatic required is 2, and must be 0 or 1"
+field "furnace 0" "$example" 8 '\000' 14 8 "$one, head: furnace is 0, and must be 1 to 4"
+field "coal 9" "$example" 9 '\011' 14 9 "$one, head: coal is 9, and must be 1 to 7"
+field "8 MW" "$example" 10 '\010\000' 14 10 "$one, head: MW is 8, and must be 9 to 65535"
+field "mark 5" "$example" 12 '\005' 14 12 "$one, head: volatile mark is 5, and must be 1 to 4"
+field "93 days" "$example" 13 '\0135' 14 13 "$one, head: number of days is 93, and must be 1 to 92"
+field "coal 0 in the third line" "$quarter" 37863 '\000' 14 37863 "stack 7, pollutant 3 (dust), head: coal is 0, and must be 1 to 7"
+hours="these bits are set, and only bits 0 to 23 are hours"
+field "run mask, bit 24" "$example" 22 '\001' 15 19 "$day: of the run mask $hours: 24"
+field "measured mask, bit 31" "$example" 26 '\0200' 15 23 "$day: of the measured mask $hours: 31"
+field "measured, not running" "$example" 23 '\073' 15 23 "$day: the measured mask has hours that the run mask has not: 4 5"
+field "0 kg" "$room/fuel" 223 '\000\000\000\000\000' 16 223 "$batch 1: kg is 0, and must be at least 1"
+much="which takes the line's fuel over 10,000,000,000 kg; before it there are"
+field "too much fuel" "$room/fuel" 239 '\002' 16 239 "$batch 2: kg is 2, $much 9999999999 kg"
+field "2^63 kg" "$room/fuel" 230 '\0200' 16 223 "$batch 1: kg is 9,007,199,254,740,992 or more, $much 0 kg"
+field "sulphur 2,001" "$room/fuel" 231 '\0321\007' 16 231 "$batch 1: sulphur, in 0.01 %, is 2001, and must be 0 to 2000"
+field "ash 10,001" "$room/fuel" 249 '\021\047' 16 249 "$batch 2: ash, in 0.01 %, is 10001, and must be 0 to 10000"
+field "survey hour 24" "$room/surveys" 223 '\030' 17 223 "$survey 24 of the period (day 1, hour 0): its hour is 24, and must be 0 to 23"
+field "plant survey hour 65,535" "$room/surveys" 237 '\0377\0377' 17 237 "$plant 65535 of the period (day 2730, hour 15): its hour is 65535"
+
+# ---- refusals of a reading
+is="is measured, and its" most="and must be at most" bytes="has bytes other than zero"
+missing="is not measured but missing, and its" stopped="is not measured but stopped, and its"
+field "concentration not a number, hour 0" "$example" 27 '\000\000\0300\0177' 4 27 "$day: hour 0 $is concentration is not a number"
+field "flow infinite, hour 0" "$example" 31 '\000\000\0200\0177' 4 31 "$day: hour 0 $is flow is infinite"
+field "concentration negative, hour 23" "$quarter" 211 '\000\000\0240\0301' 4 211 "$seven 0: hour 23 $is concentration is negative: -20 mg/m3"
+field "flow over, hour 23" "$quarter" 215 '\0201\0226\0230\0112' 4 215 "$seven 0: hour 23 $is flow is 5000000.5 m3/h, $most 5,000,000"
+field "concentration over, day 91" "$quarter" 18682 '\006\0100\034\0106' 4 18682 "$seven 91: hour 0 $is concentration is 10000.0059 mg/m3, $most 10,000.00"
+field "concentration, hour 0 missing" "$example" 23 '\012' 4 27 "$day: hour 0 $missing concentration $bytes"
+field "flow, hour 0 missing" "$example" 23 '\012\000\000\000\000\000\000\000' 4 31 "$day: hour 0 $missing flow $bytes"
+field "concentration, hour 23 stopped" "$example" 211 '\001' 4 211 "$day: hour 23 $stopped concentration $bytes"
+field "flow, hour 23 stopped" "$example" 218 '\0200' 4 215 "$day: hour 23 $stopped flow $bytes"
+field "concentration of a survey" "$room/surveys" 228 '\0301' 4 225 "$survey 0 of the period (day 0, hour 0): concentration is negative: -20 mg/m3"
+field "flow of a survey" "$room/surveys" 243 '\000\000\0300\0377' 4 243 "$plant 1 of the period (day 0, hour 1): flow is not a number"
+refused "line ends turned to CR LF" 4 159 "$seven 0: hour 16" "$room/crlf"
+
+# ---- words that cannot be found, and bytes that are kept for them
+expect "a FIFO" 1 "$room/coal.out" "$one, head: coal is 9" by_fifo launch account
+expect "no folder for temporary files" 1 "$room/coal.out" "$not_found" temporary "$room/none" launch account <"$room/coal"
+expect "no folder for temporary files, a sound file" 0 "$stated" '' temporary "$room/none" launch account <"$example"
+expect "no awk" 1 "$room/coal.out" "$not_found" broken "no awk" launch account "$room/coal"
+expect "no od" 1 "$room/coal.out" "$not_found" broken "no od" launch account "$room/coal"
+expect "nothing stays behind" 0 "$stated" '' left_behind launch account <"$example"
+expect "nothing stays behind of a launcher that is stopped" 143 /dev/null '' left_behind killed TERM
+expect "nothing stays behind of a launcher that is killed" 137 /dev/null '' left_behind killed KILL
 
 # ---- nothing stated
 no_answer "no such file" "there is no file" launch account "$room/none"
@@ -157,6 +247,7 @@ else
     chmod a-w "$copy/target" && no_answer "a target/ that is another's" "you may not write" run "$copy/doarpezwim" account "$example"
     chmod u+w "$copy/target"
 fi
+expect "a launcher without its words" 1 "$room/coal.out" "$not_found" run "$copy/doarpezwim" account "$room/coal"
 rm "$copy/target/bin/account"
 expect "a program that is gone is built again" 0 "$stated" proving run "$copy/doarpezwim" account "$example"
 echo broken >>"$copy/crates/account/src/main.rt"
