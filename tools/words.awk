@@ -1,7 +1,7 @@
 # The words for the place of a refusal: which record and which field it is, of which stack and pollutant, and what is wrong with it.
 #
 # usage: od -A n -v -t u1 FILE | awk -v number=N -v place=OFFSET -f tools/words.awk
-# Prints one line, or nothing where FILE has no such fault at that place. Any POSIX awk will do: large numbers go by %.0f, and none through int().
+# Prints one line, or nothing where FILE has no such fault at that place. Small awks will do: there is no power, and no large number in int() or %d.
 
 BEGIN {
     size = 0
@@ -19,7 +19,14 @@ END { if (find() && (words = said()) != "") print words }
 function u16(p) { return byte[p] + 256 * byte[p + 1] }
 function u32(p) { return u16(p) + 65536 * u16(p + 2) }
 function u64(p) { return u32(p) + 4294967296 * u32(p + 4) }
-function bit(p, n) { return int(byte[p + int(n / 8)] / 2 ^ (n % 8)) % 2 }
+function bit(p, n) { return int(scaled(byte[p + int(n / 8)], -(n % 8))) % 2 }
+
+# n x 2^power
+function scaled(n, power) {
+    for (; power > 0; power--) n *= 2
+    for (; power < 0; power++) n /= 2
+    return n
+}
 
 # Goes from record to record up to the one that has the place: all before it are sound, or the file is not the one that was accounted.
 function find() {
@@ -125,7 +132,7 @@ function bits(from, to, run,   n, list) {
 function mask(o,   name, list) {
     if (o != 5 && o != 9) return ""
     name = o == 5 ? "run mask" : "measured mask"
-    if ((list = bits(24, 32)) != "") return "of the " name " these bits are set, and only bits 0 to 23 are hours:" list
+    if ((list = bits(24, 32)) != "") return "the " name " has bits past hour 23:" list
     if (o == 9 && (list = bits(0, 24, at + 5)) != "") return "the measured mask has hours that the run mask has not:" list
     return ""
 }
@@ -155,13 +162,13 @@ function hour_reading(o,   hour, what) {
 
 function quantity(is_flow) { return is_flow ? "flow" : "concentration" }
 
-# A measured reading that is not allowed: from its exact value, with no int(), which some awks limit.
+# A measured reading that is not allowed, by its exact value.
 function reading(is_flow,   name, exponent, rest, value, unit) {
     name = quantity(is_flow) " is "
     exponent = byte[place + 3] % 128 * 2 + bit(place, 23)
     rest = u16(place) + byte[place + 2] % 128 * 65536
     if (exponent == 255) return name (rest ? "not a number" : "infinite")
-    value = exponent ? (8388608 + rest) * 2 ^ (exponent - 150) : rest * 2 ^ -149
+    value = exponent ? scaled(8388608 + rest, exponent - 150) : scaled(rest, -149)
     unit = is_flow ? " m3/h" : " mg/m3"
     if (byte[place + 3] > 127 && value) return name "negative: " sprintf("%.9g", -value) unit
     if (is_flow ? value < 5000000.5 : value * 100 < 1000000.5) return ""
