@@ -19,9 +19,9 @@ extern "C" {
 #endif
 
 #define DOARPEZWIM_VERSION_MAJOR 0
-#define DOARPEZWIM_VERSION_MINOR 1
+#define DOARPEZWIM_VERSION_MINOR 2
 #define DOARPEZWIM_VERSION_PATCH 0
-#define DOARPEZWIM_VERSION "0.1.0"
+#define DOARPEZWIM_VERSION "0.2.0"
 
 /* Cells that each work slice has to have: the hours of 92 days. */
 #define DOARPEZWIM_WORK_CELLS 2208
@@ -41,12 +41,11 @@ extern "C" {
  */
 #define DOARPEZWIM_STACK_BYTES 32672
 
-/* The numbers that are answered; docs/REFUSALS.md says more of each, and what to do. */
+/* The numbers that are answered; docs/REFUSALS.md says more of each, and what to do. 3 is no longer one of them. */
 enum doarpezwim_refusal {
     DOARPEZWIM_ACCEPTED = 0,
     DOARPEZWIM_CUT_OR_UNKNOWN = 1,
     DOARPEZWIM_OUT_OF_PLACE = 2,
-    DOARPEZWIM_OUT_OF_RANGE = 3,
     DOARPEZWIM_BAD_READING = 4,
     DOARPEZWIM_STOPPED_SURVEY = 5,
     DOARPEZWIM_NO_BATCH = 6,
@@ -58,8 +57,12 @@ enum doarpezwim_refusal {
     DOARPEZWIM_PANEL_UNLAWFUL = 12,
     /* Of the program `account` alone: the library takes files of any length. */
     DOARPEZWIM_INPUT_TOO_LONG = 13,
-    /* Of doarpezwim_panel_hour: the kind of hour does not exist. */
-    DOARPEZWIM_UNKNOWN_KIND = 3
+    DOARPEZWIM_HEAD_FIELD = 14,
+    DOARPEZWIM_MASK = 15,
+    DOARPEZWIM_FUEL_FIELD = 16,
+    DOARPEZWIM_SURVEY_HOUR = 17,
+    /* Of doarpezwim_panel_hour, a wrong state: the kind of hour does not exist. The number is a mask's. */
+    DOARPEZWIM_UNKNOWN_KIND = 15
 };
 
 /* What is wrong, in words without a place; for a number that is never answered, that it is unknown. */
@@ -69,7 +72,6 @@ static inline const char *doarpezwim_refusal_text(uint32_t number)
     case 0: return "accepted";
     case 1: return "a record is cut short, of an unknown kind, or not of its kind's length";
     case 2: return "a record is out of place or one too many, or the file ends inside a line";
-    case 3: return "a field, a mask, the fuel, a survey's hour or a kind of hour is out of range";
     case 4: return "a reading is not allowed or over its limit, or an unmeasured hour is not zero";
     case 5: return "a survey names an hour in which the stack was stopped";
     case 6: return "a line goes by fuel and has no batch";
@@ -80,6 +82,10 @@ static inline const char *doarpezwim_refusal_text(uint32_t number)
     case 11: return "the panel holds 2208 hours already";
     case 12: return "the panel's state is not lawful";
     case 13: return "the input is over 65536 bytes, which is the program's limit";
+    case 14: return "a field of a head is out of range";
+    case 15: return "a mask has bits past hour 23, a measured hour does not run, or a kind of hour does not exist";
+    case 16: return "a field of a fuel batch is out of range, or takes the line's fuel over 10000000000 kg";
+    case 17: return "a survey's hour is past the period";
     default: return "an unknown refusal";
     }
 }
@@ -112,8 +118,9 @@ enum doarpezwim_row_cell {
  * States the account of a record file of any length.
  *
  * answer: number, place, row count, and the grams of sulphur dioxide, nitrogen oxides and dust. The number is returned
- * as well. It is 0 if the file is accepted, and so is the place; else it is 1 to 9, the place is the byte offset of the
- * record at fault (0 for 8 and 9), and row count and grams are 0.
+ * as well. It is 0 if the file is accepted, and so is the place. Else it is 1, 2, 4 to 9 or 14 to 17, and row count and
+ * grams are 0. The place is a byte offset in the file: for 4 and 14 to 17 that of the first wrong field or reading, for
+ * 1, 2, 5, 6 and 7 that of the record at fault (the file's length if the file ends inside a line), for 8 and 9 it is 0.
  *
  * rows: accepted rows stand at its start in line order, seven cells each; the cells past them, and all cells after a
  * refusal, stay as they were. 7 x 48 cells are always enough.

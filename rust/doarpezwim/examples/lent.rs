@@ -54,7 +54,7 @@ fn survey(lookup: Lookup) -> u32 {
 
 fn main() {
     let mut rng = Rng::new(SEED);
-    let mut numbers = [0; 14];
+    let mut numbers = [0; 18];
     let sizes = [(Size::Short, 900), (Size::Medium, 40), (Size::Long, 30), (Size::ManyLines, 10), (Size::Full, 2)];
     for (size, count) in sizes {
         for _ in 0..count {
@@ -63,7 +63,7 @@ fn main() {
         }
     }
     println!("account calls by number: {numbers:?}");
-    let mut numbers = [0; 14];
+    let mut numbers = [0; 18];
     for _ in 0..2_000 {
         numbers[panel(Step::generate(&mut rng)) as usize] += 1;
     }

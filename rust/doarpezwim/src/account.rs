@@ -73,7 +73,8 @@ impl<'a> Stated<'a> {
 
 /// States the account of a record file of any length.
 ///
-/// An empty file is a sound one without rows. What is not sound is refused with the first fault and its place:
+/// An empty file is a sound one without rows. What is not sound is refused with the first fault and its place, that of
+/// the wrong field where it is a field:
 ///
 /// ```
 /// use doarpezwim::{Method, Pollutant, Refusal};
@@ -85,12 +86,16 @@ impl<'a> Stated<'a> {
 ///
 /// file.truncate(219); // The end record is lost.
 /// assert_eq!(doarpezwim::account(&file), Err(Refusal::OutOfPlace { place: 219 }));
+///
+/// file[34] = 0xff; // The flow of hour 0, at byte 31, becomes negative.
+/// assert_eq!(doarpezwim::account(&file), Err(Refusal::BadReading { place: Some(31) }));
 /// # Ok::<(), Box<dyn std::error::Error>>(())
 /// ```
 ///
 /// # Errors
 ///
-/// A file that is not sound gives one of the refusals 1 to 7. 8 and 9 do not come up: enough cells are lent.
+/// A file that is not sound gives one of the refusals 1, 2, 4 to 7 and 14 to 17. 8 and 9 do not come up: enough cells
+/// are lent.
 pub fn account(file: &[u8]) -> Result<Account, Refusal> {
     let mut rows = [0; ROW_CELLS * MOST_LINES];
     let mut work = vec![0; 2 * WORK_CELLS];
@@ -121,7 +126,7 @@ pub fn account(file: &[u8]) -> Result<Account, Refusal> {
 ///
 /// # Errors
 ///
-/// The refusals 1 to 7 of [`account`], 8 if `rows` is too short, 9 if a work slice is.
+/// The refusals of [`account`], 8 if `rows` is too short, 9 if a work slice is.
 pub fn account_into<'a>(
     file: &[u8],
     rows: &'a mut [u64],

@@ -22,7 +22,7 @@ unsafe extern "C" {
 
     /// The call behind [`Panel::hour`](crate::Panel::hour); returns the refusal number, or 0.
     ///
-    /// A kind that is none of 0 stopped, 1 missing, 2 measured is refused before the state is looked at.
+    /// A kind that is none of 0 stopped, 1 missing, 2 measured is refused with 15 before the state is looked at.
     ///
     /// # Safety
     /// The module's rules hold.

@@ -5,13 +5,19 @@ use std::fmt;
 
 /// Why a call states nothing: a variant for each number that the library answers.
 ///
-/// A place is where the record at fault starts in the file, in bytes, or the file's length if the file ends between two
+/// A place counts the file's bytes from 0. For a field or a reading (4 and 14 to 17) it is where the first wrong one
+/// starts; for 1, 2, 5, 6 and 7 where the record at fault starts, or the file's length if the file ends between two
 /// records with a line still open. As text a refusal says what is wrong and what to do:
 ///
 /// ```
 /// let refusal = doarpezwim::account(b"no record").unwrap_err();
 /// assert_eq!((refusal.number(), refusal.place()), (1, Some(0)));
 /// assert!(refusal.to_string().starts_with("refused 1 at byte 0: the record is cut short"));
+///
+/// let mut file = std::fs::read("../../samples/example.rec")?;
+/// file[9] = 8; // The head's coal, which is 1 to 7.
+/// assert_eq!(doarpezwim::account(&file), Err(doarpezwim::Refusal::HeadField { place: 9 }));
+/// # Ok::<(), std::io::Error>(())
 /// ```
 #[derive(Clone, Copy, Debug, PartialEq, Eq, Hash)]
 #[non_exhaustive]
@@ -26,14 +32,9 @@ pub enum Refusal {
         /// Where the record starts, or the file's length.
         place: usize,
     },
-    /// 3: a field, a mask, the line's fuel or a survey's hour is out of range.
-    OutOfRange {
-        /// Where the record starts.
-        place: usize,
-    },
     /// 4: a reading is not allowed or over its limit, or an hour that is not measured has bytes other than zero.
     BadReading {
-        /// Where the record starts; `None` from a panel.
+        /// Where the first concentration or flow at fault starts; `None` from a panel.
         place: Option<usize>,
     },
     /// 5: a survey names an hour in which the stack was stopped.
@@ -61,6 +62,26 @@ pub enum Refusal {
     PanelFull,
     /// 12: the panel's state is not lawful.
     PanelUnlawful,
+    /// 14: a field of a head is out of range.
+    HeadField {
+        /// Where the first wrong field starts.
+        place: usize,
+    },
+    /// 15: a mask has bits past hour 23, or the measured mask has hours that the run mask has not.
+    Mask {
+        /// Where the run mask starts, or the measured mask if the run mask is right.
+        place: usize,
+    },
+    /// 16: a field of a fuel batch is out of range, or its kg take the line's fuel over the limit.
+    FuelField {
+        /// Where the first wrong field starts; the line's fuel counts for the kg.
+        place: usize,
+    },
+    /// 17: a survey's hour is past the period.
+    SurveyHour {
+        /// Where the hour starts.
+        place: usize,
+    },
 }
 
 impl Refusal {
@@ -70,7 +91,6 @@ impl Refusal {
         match self {
             Refusal::CutOrUnknown { .. } => 1,
             Refusal::OutOfPlace { .. } => 2,
-            Refusal::OutOfRange { .. } => 3,
             Refusal::BadReading { .. } => 4,
             Refusal::StoppedSurvey { .. } => 5,
             Refusal::NoBatch { .. } => 6,
@@ -80,6 +100,10 @@ impl Refusal {
             Refusal::PanelOver => 10,
             Refusal::PanelFull => 11,
             Refusal::PanelUnlawful => 12,
+            Refusal::HeadField { .. } => 14,
+            Refusal::Mask { .. } => 15,
+            Refusal::FuelField { .. } => 16,
+            Refusal::SurveyHour { .. } => 17,
         }
     }
 
@@ -89,10 +113,13 @@ impl Refusal {
         match *self {
             Refusal::CutOrUnknown { place }
             | Refusal::OutOfPlace { place }
-            | Refusal::OutOfRange { place }
             | Refusal::StoppedSurvey { place }
             | Refusal::NoBatch { place }
-            | Refusal::NoEntry { place } => Some(place),
+            | Refusal::NoEntry { place }
+            | Refusal::HeadField { place }
+            | Refusal::Mask { place }
+            | Refusal::FuelField { place }
+            | Refusal::SurveyHour { place } => Some(place),
             Refusal::BadReading { place } => place,
             Refusal::FewRowCells
             | Refusal::FewWorkCells
@@ -107,13 +134,16 @@ impl Refusal {
         match number {
             1 => Refusal::CutOrUnknown { place },
             2 => Refusal::OutOfPlace { place },
-            3 => Refusal::OutOfRange { place },
             4 => Refusal::BadReading { place: Some(place) },
             5 => Refusal::StoppedSurvey { place },
             6 => Refusal::NoBatch { place },
             7 => Refusal::NoEntry { place },
             8 => Refusal::FewRowCells,
             9 => Refusal::FewWorkCells,
+            14 => Refusal::HeadField { place },
+            15 => Refusal::Mask { place },
+            16 => Refusal::FuelField { place },
+            17 => Refusal::SurveyHour { place },
             _ => panic!("the archive refuses a file with {number}: it is newer than this crate"),
         }
     }
@@ -136,7 +166,6 @@ impl Refusal {
                 "the record is out of place or one too many, its day, hour or line does not rise, or the file ends \
                  inside a line"
             }
-            Refusal::OutOfRange { .. } => "a field, a mask, the line's fuel or a survey's hour is out of range",
             Refusal::BadReading { .. } => {
                 "a reading is not a number, infinite, negative or over its limit, or an hour that is not measured has \
                  bytes other than zero"
@@ -149,6 +178,14 @@ impl Refusal {
             Refusal::PanelOver => "the panel's total would pass 2^53",
             Refusal::PanelFull => "the panel holds 2,208 hours already",
             Refusal::PanelUnlawful => "the panel's state is not lawful",
+            Refusal::HeadField { .. } => "a field of a head is out of range",
+            Refusal::Mask { .. } => {
+                "a mask has bits past hour 23, or the measured mask has hours that the run mask has not"
+            }
+            Refusal::FuelField { .. } => {
+                "a field of a fuel batch is out of range, or takes the line's fuel over 10,000,000,000 kg"
+            }
+            Refusal::SurveyHour { .. } => "a survey's hour is past the period",
         }
     }
 
@@ -156,8 +193,9 @@ impl Refusal {
         match self {
             Refusal::CutOrUnknown { .. } => "send the file again whole, or write the record's length and kind anew",
             Refusal::OutOfPlace { .. } => "write the records in the order of docs/FORMAT.md and close each line",
-            Refusal::OutOfRange { .. } => "correct the field at its source; docs/FORMAT.md has the ranges",
-            Refusal::BadReading { .. } => "correct the reading, or mark the hour missing with eight zero bytes",
+            Refusal::BadReading { .. } => {
+                "correct it, or leave a survey out, or mark the hour missing with eight zero bytes"
+            }
             Refusal::StoppedSurvey { .. } => "correct the survey's hour or the day's run mask",
             Refusal::NoBatch { .. } => "add the line's fuel batches",
             Refusal::NoEntry { .. } => "check the head's furnace, coal, MW and mark",
@@ -165,6 +203,10 @@ impl Refusal {
             Refusal::FewWorkCells => "lend two slices of 2,208 cells or more",
             Refusal::PanelOver | Refusal::PanelFull => "start a new panel",
             Refusal::PanelUnlawful => "go on from a state that the panel handed back",
+            Refusal::HeadField { .. } => "correct the field at its source; docs/FORMAT.md has the ranges",
+            Refusal::Mask { .. } => "set bit h for hour h, 0 to 23, and a measured bit only with its run bit",
+            Refusal::FuelField { .. } => "correct the field at its source: whole kg, and hundredths of a per cent",
+            Refusal::SurveyHour { .. } => "correct the hour, 24 x day + hour from 0, or the days in the line's head",
         }
     }
 }
@@ -187,10 +229,10 @@ mod tests {
 
     #[test]
     fn keeps_number_and_place() {
-        for number in 1..=9 {
+        for number in [1, 2, 4, 5, 6, 7, 8, 9, 14, 15, 16, 17] {
             let refusal = Refusal::of_account(number, 205);
             assert_eq!(refusal.number(), number);
-            assert_eq!(refusal.place(), (number < 8).then_some(205));
+            assert_eq!(refusal.place(), (![8, 9].contains(&number)).then_some(205));
         }
         for number in [4, 10, 11, 12] {
             let refusal = Refusal::of_panel(number);
@@ -199,11 +241,22 @@ mod tests {
     }
 
     #[test]
+    #[should_panic(expected = "refuses a file with 3")]
+    fn knows_no_3() {
+        let _ = Refusal::of_account(3, 0);
+    }
+
+    #[test]
     fn says_what_is_wrong_and_what_to_do() {
         let text = Refusal::StoppedSurvey { place: 219 }.to_string();
         let expected = "refused 5 at byte 219: a survey names an hour in which the stack was stopped; correct the \
                         survey's hour or the day's run mask";
         assert_eq!(text, expected);
+        assert_eq!(
+            Refusal::HeadField { place: 9 }.to_string(),
+            "refused 14 at byte 9: a field of a head is out of range; correct the field at its source; docs/FORMAT.md \
+             has the ranges"
+        );
         assert_eq!(
             Refusal::PanelFull.to_string(),
             "refused 11: the panel holds 2,208 hours already; start a new panel"
