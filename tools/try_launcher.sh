@@ -121,7 +121,7 @@ mkdir "$room/kit" && cat >"$room/kit/rt" <<END
 exec "$(command -v rt)" "\$@"
 END
 chmod +x "$room/kit/rt"
-for tool in awk od; do # gone for the words alone, since rt needs them too
+for tool in awk od head; do # each fails where the words need it, and only there: rt needs them too
     mkdir "$room/no $tool" && cat >"$room/no $tool/$tool" <<END
 #!/bin/sh
 case "\$*" in *words.awk* | *65537*) exit 127 ;; esac
@@ -210,6 +210,7 @@ expect "no folder for temporary files" 1 "$room/coal.out" "$not_found" temporary
 expect "no folder for temporary files, a sound file" 0 "$stated" '' temporary "$room/none" launch account <"$example"
 expect "no awk" 1 "$room/coal.out" "$not_found" broken "no awk" launch account "$room/coal"
 expect "no od" 1 "$room/coal.out" "$not_found" broken "no od" launch account "$room/coal"
+no_answer "input that cannot be kept" "could not be read, or not be kept" broken "no head" launch account <"$example"
 expect "nothing stays behind" 0 "$stated" '' left_behind launch account <"$example"
 expect "nothing stays behind of a launcher that is stopped" 143 /dev/null '' left_behind killed TERM
 expect "nothing stays behind of a launcher that is killed" 137 /dev/null '' left_behind killed KILL
