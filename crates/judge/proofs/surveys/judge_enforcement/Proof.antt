@@ -1,9 +1,9 @@
 -- `judge::surveys::judge_enforcement` meets its contract: its tests are the rule's, taken together. Assumes nothing.
-use mathlib.Core.Path.{ap, _∙_}
+use mathlib.Core.Path.{refl, ap, _∙_}
 use Rattle.law.specs.Words.{need, needAll}
 use Rattle.law.proofs.Tests.{need-both, need-then}
 use Rattle.rules.specs.Judge.{placeEnforcement, surveyTests}
-use Rattle.rules.proofs.Faults.{first-parts}
+use Rattle.judge.proofs.Tests.{in-turn}
 use borrow.Author.Needs.{needs}
 use Rattle.judge.proofs.surveys.judge_enforcement.Statement.{statement}
 use Rattle.judge.proofs.surveys.judge_enforcement.Tie as tie
@@ -23,7 +23,9 @@ first-of-requires c κs = search needs
 returns : tie.Need-returns
 unfolding needAll placeEnforcement surveyTests
 returns c =
-    first-parts _ _ _ _ _ (c .first-of .ensures) (c .before .before .refuse-unless .ensures ∙ need-then _ _ _ _ _ (c .before .before .before .in-place .ensures) ∙ ap (need _ _) (need-both _ _ _ _ ∙ need-both _ _ _ _ ∙ need-both _ _ _ _ ∙ need-both _ _ _ _)) (c .before .judge-survey .ensures)
+    in-turn (c .before .before .refuse-unless .result) (c .before .judge-survey .result) _ _ _ _ _ (c .first-of .ensures) refl refl
+    (c .before .before .refuse-unless .ensures ∙ need-then _ _ _ _ _ (c .before .before .before .in-place .ensures) ∙ ap (need _ _) (need-both _ _ _ _ ∙ need-both _ _ _ _ ∙ need-both _ _ _ _ ∙ need-both _ _ _ _))
+    (c .before .judge-survey .ensures)
 
 pub judge-enforcement-spec : {M : Type 1} → statement M
 judge-enforcement-spec =
