@@ -20,6 +20,8 @@ use Rattle.reading.proofs.Laws.{units-exact}
 use Rattle.rules.specs.declared.Answer.{Answer}
 use Rattle.rules.specs.Row.{concentrationCells, flowCells}
 use Rattle.rules.specs.Judge.{refuse}
+use Rattle.rules.proofs.Surveyed.{days-no-more}
+use Rattle.rules.proofs.Alone.{nothing-else}
 use Rattle.rules.specs.Account.{refusal, acceptance, answerOf, rowsAfter, workAfter}
 use Rattle.answers.proofs.Answers.{stated}
 use Rattle.answers.proofs.Places.{answer-points}
@@ -172,6 +174,7 @@ demands =
       three = near;
       alone = ((refuser, refuses), alone);
       places = pointed;
+      outage = λ x. (days-no-more x, nothing-else x);
       readings = in-units;
       panel = panel-exact;
       survey = governs;

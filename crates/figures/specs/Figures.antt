@@ -1,15 +1,21 @@
--- "Figures to agree on .. gathered as a single proved table with a single statement": the seven readings, both quarter cases, balance, oxides, dust.
+-- "Figures to agree on .. gathered as a single proved table with a single statement": the seven readings, both quarter cases, balance, oxides, dust; and
+-- the case of document 02, A2.
 use Prim.Native.Nat.{ℕ}
 use mathlib.Core.List.{List, [], _∷_, map}
 use mathlib.Core.Path.{_≡_}
+use lib.ListN.{replicate}
+use Rattle.law.specs.Numbers.{hoursOfDay}
 use Rattle.law.specs.Words.{pick}
 use Rattle.reading.specs.declared.Rounded.{Rounded}
 use Rattle.reading.specs.declared.Rounded.the-variants.{Value, NotAllowed}
 use Rattle.reading.specs.Reading.{reading, concentrationOf, flowOf}
 use Rattle.rules.specs.declared.Head.{Head}
+use Rattle.rules.specs.declared.Pair.{Pair}
+use Rattle.rules.specs.declared.Survey.{Survey}
 use Rattle.rules.specs.declared.Batch.{Batch}
 use Rattle.rules.specs.Hours.{runningOf, missingOf}
-use Rattle.rules.specs.Method.{isAutomatic}
+use Rattle.rules.specs.Lines.{Line}
+use Rattle.rules.specs.Method.{isAutomatic, method}
 use Rattle.rules.specs.Tables.{coefficientsOf}
 use Rattle.rules.specs.Grams.{fuelGrams}
 
@@ -45,6 +51,29 @@ quarterRow run measured f =
 unfoldable pub boiler : ℕ → ℕ → Head
 boiler pollutant mw = record { stack = 1; pollutant = pollutant; required = 1; furnace = 1; coal = 4; mw = mw; mark = 1; days = 1 }
 
+-- both readings of an hour, by their bit patterns
+unfoldable pub pair : ℕ → ℕ → Pair
+pair concentration flow = record { concentration = concentration; flow = flow }
+
+-- a survey of an hour with 30 mg/m3 and 100 m3/h
+unfoldable pub survey : ℕ → Survey
+survey hour = record { hour = hour; pair = pair 0x41f00000 0x42c80000 }
+
+-- a line of one day with these two masks, 0 read in each measured hour, and with surveys of both kinds
+unfoldable pub dayLine : ℕ → ℕ → List Survey → List Survey → Line
+dayLine run measured enforcement plant =
+    record {
+      head = boiler 2 300;
+      days = record { masks = record { day = 0; run = run; measured = measured }; pairs = replicate hoursOfDay (pair 0 0) } ∷ [];
+      enforcement = enforcement;
+      plant = plant;
+      batches = [];
+    }
+
+-- the method of a line, 1 where it is automatic
+unfoldable pub methodRow : Line → ℕ → Row
+methodRow x f = record { computed = Gives (method x); agreed = Gives f }
+
 -- 1,000,000 kg
 unfoldable pub batch : ℕ → ℕ → Batch
 batch sulphur ash = record { kg = 1_000_000; sulphur = sulphur; ash = ash }
@@ -65,6 +94,8 @@ figures =
     ∷ concentrationRow 0x80000000 (Gives 0)  -- minus zero
     ∷ quarterRow 0b1111 0b1011 1  -- four running hours with one missing stay automatic
     ∷ quarterRow 0b111 0b011 0  -- three with one missing don't
+    ∷ methodRow (dayLine 0b111 0b011 (survey 2 ∷ []) []) 1  -- "three running hours, one missing with a survey, is automatic" (A2)
+    ∷ methodRow (dayLine 0b111 0b011 [] (survey 2 ∷ [])) 1  -- the same by a plant survey
     ∷ fuelRow (boiler 1 300) (batch 80 0 ∷ []) 14_184_000
     ∷ fuelRow (boiler 1 300) (batch 100 0 ∷ batch 80 0 ∷ []) 35_460_000
     ∷ fuelRow (boiler 2 450) (batch 0 0 ∷ []) 7_950_000

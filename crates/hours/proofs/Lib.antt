@@ -2,4 +2,5 @@
 pub mod Ones
 pub mod Laws
 pub mod Whole
+pub mod Marked
 pub mod Only

@@ -8,7 +8,7 @@ use Rattle.rules.specs.declared.Survey.{Survey}
 use Rattle.rules.specs.declared.View.{View}
 use Rattle.line.specs.declared.surveyed.Weighed.{Weighed}
 use Rattle.line.specs.Line.{rowIn}
-use Rattle.line.specs.Put.{SurveyPut, PlantPut}
+use Rattle.line.specs.Put.{Tables, SurveyPut, PlantPut}
 
 pub larger : (a b m n : ℕ) → m ≡ max a b → n ≡ max a b → m ≡ n
 larger a b m n p q = cc
@@ -22,10 +22,10 @@ product c l a b p q = cc
 pub row-of : (v : View) (method grams first : ℕ) (a b : List ℕ) → a ≡ rowIn v method grams first → b ≡ rowIn v method grams first → a ≡ b
 row-of v method grams first a b p q = cc
 
--- a survey: the answer and both quantities' cells
-module _ (t : Survey) (measured : Bool) (conc flow conc₁ conc₂ flow₁ flow₂ : List ℕ) (a b : Weighed) where
-  pub put-survey : SurveyPut t measured conc flow conc₁ flow₁ a → SurveyPut t measured conc flow conc₂ flow₂ b → (a ≡ b) × (conc₁ ≡ conc₂) × (flow₁ ≡ flow₂)
-  put-survey p q = (p .weighs ∙ sym (q .weighs), p .concentrations ∙ sym (q .concentrations), p .flows ∙ sym (q .flows))
+-- a survey: the answer and the tables
+module _ (t : Survey) (runs : List ℕ) (o o₁ o₂ : Tables) (a b : Weighed) where
+  pub put-survey : SurveyPut t runs o o₁ a → SurveyPut t runs o o₂ b → (a ≡ b) × (o₁ ≡ o₂)
+  put-survey p q = (p .weighs ∙ sym (q .weighs), p .tables ∙ sym (q .tables))
 
-  pub put-plant : (beaten : Bool) → PlantPut t beaten measured conc flow conc₁ flow₁ a → PlantPut t beaten measured conc flow conc₂ flow₂ b → (a ≡ b) × (conc₁ ≡ conc₂) × (flow₁ ≡ flow₂)
-  put-plant beaten p q = (p .weighs ∙ sym (q .weighs), p .concentrations ∙ sym (q .concentrations), p .flows ∙ sym (q .flows))
+  pub put-plant : (beaten : Bool) → PlantPut t beaten runs o o₁ a → PlantPut t beaten runs o o₂ b → (a ≡ b) × (o₁ ≡ o₂)
+  put-plant beaten p q = (p .weighs ∙ sym (q .weighs), p .tables ∙ sym (q .tables))

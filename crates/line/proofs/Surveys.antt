@@ -1,8 +1,8 @@
--- The figures of a survey are those of its readings; its hour's cell and flag. Assumes nothing.
+-- The figures of a survey are those of its readings; its hour's flag. Assumes nothing.
 use mathlib.Core.Path.{_≡_, refl, sym, ap}
 use mathlib.Core.Bool.{Bool, false, _&&_}
 use mathlib.Core.List.{List}
-use Prim.Native.Nat.{ℕ, _<_, _≤_}
+use Prim.Native.Nat.{ℕ, _*_, _<_, _≤_}
 use lib.ListN.{length, getD, set}
 use lib.Seq.{set-out}
 use lib.Dec.{eqb}
@@ -13,7 +13,8 @@ use Rattle.reading.specs.declared.FlaggedPair.{FlaggedPair}
 use Rattle.reading.specs.Reading.{flaggedPair, flaggedHour}
 use Rattle.rules.specs.Hours.{measuredOf}
 use Rattle.rules.specs.declared.Survey.{Survey}
-use Rattle.line.specs.Put.{replacedCell, surveyC, surveyL, beats}
+use Rattle.line.specs.declared.surveyed.Weighed.{Weighed}
+use Rattle.line.specs.Put.{inTables, surveyC, surveyL, standing, beats}
 
 module _ (t : Survey) (r : FlaggedPair) (e : r ≡ flaggedHour (measuredOf (t .pair))) where
   pub concentration-is : r .concentration ≡ surveyC t
@@ -33,7 +34,10 @@ pub beats-past : (flags : List ℕ) (h : ℕ) → mostHours ≤ h → false ≡ 
 unfolding beats
 beats-past flags h l = sym (ap (λ (t : Bool). t && eqb (getD flags h 0) 1) (le-ltb h mostHours l))
 
--- an hour past the cells is not replaced
-pub replaced-past : (measured : Bool) (h v : ℕ) (cells : List ℕ) → length cells ≤ h → cells ≡ replacedCell measured h v cells
-replaced-past measured h v cells l =
-    pick-case (λ (t : List ℕ). cells ≡ t) measured (set cells h v) cells (λ _. sym (set-out cells h v l)) (λ _. refl)
+-- the tables, each by itself
+pub tables-are : (a b c d a' b' c' d' : List ℕ) → a ≡ a' → b ≡ b' → c ≡ c' → d ≡ d' → inTables a b c d ≡ inTables a' b' c' d'
+tables-are a b c d a' b' c' d' p q r s = cc
+
+-- what a survey adds, each figure by itself, so that a wrong one is named
+pub adds : (w : Weighed) (c l found : ℕ) → w .count ≡ 1 → w .weight ≡ c * l → w .found ≡ found → w ≡ standing c l found
+adds w c l found p q r = λ i. record { count = p i; weight = q i; found = r i }

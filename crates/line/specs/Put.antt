@@ -9,11 +9,18 @@ use Rattle.law.specs.Numbers.{mostHours}
 use Rattle.law.specs.Words.{pick}
 use Rattle.reading.specs.Reading.{reading, concentrationOf, flowOf, flaggedOf}
 use Rattle.rules.specs.declared.Survey.{Survey}
+use Rattle.hours.specs.Marks.{withMeasured, foundBy}
 use Rattle.line.specs.declared.surveyed.Weighed.{Weighed}
 
--- the cell of hour h replaced, where the hour is measured
-abbrev pub replacedCell : Bool → ℕ → ℕ → List ℕ → List ℕ
-replacedCell measured h v cells = pick measured (set cells h v) cells
+-- the tables of a line's hours that a survey moves: the measured masks of its days, the states of its hours, and both work tables
+pub record Tables : Type 0 where
+  pub measured : List ℕ
+  pub states : List ℕ
+  pub concentrations : List ℕ
+  pub flows : List ℕ
+
+abbrev pub inTables : List ℕ → List ℕ → List ℕ → List ℕ → Tables
+inTables measured states concentrations flows = record { measured = measured; states = states; concentrations = concentrations; flows = flows }
 
 -- the values of a survey, 0 for a reading that is refused
 abbrev pub surveyC : Survey → ℕ
@@ -23,24 +30,26 @@ abbrev pub surveyL : Survey → ℕ
 surveyL t = flaggedOf (flowOf (reading (t .pair .flow))) .value
 
 -- what a survey adds that stands, and one that is beaten
-abbrev pub standing : ℕ → ℕ → Weighed
-standing c l = record { count = 1; weight = c * l }
+abbrev pub standing : ℕ → ℕ → ℕ → Weighed
+standing c l found = record { count = 1; weight = c * l; found = found }
 
 abbrev pub nothing : Weighed
-nothing = record { count = 0; weight = 0 }
+nothing = record { count = 0; weight = 0; found = 0 }
 
--- a survey that stands: put in where its hour is measured, and weighed
-pub record SurveyPut (t : Survey) (measured : Bool) (conc flow conc' flow' : List ℕ) (r : Weighed) : Type 0 where
-  pub weighs : r ≡ standing (surveyC t) (surveyL t)
-  pub concentrations : conc' ≡ replacedCell measured (t .hour) (surveyC t) conc
-  pub flows : flow' ≡ replacedCell measured (t .hour) (surveyL t) flow
+-- the tables with hour h measured, with two values
+abbrev pub measuredAt : ℕ → ℕ → ℕ → Tables → Tables
+measuredAt h c l o = inTables (withMeasured h (o .measured)) (set (o .states) h 2) (set (o .concentrations) h c) (set (o .flows) h l)
+
+-- a survey that stands: its hour is measured, with its values, and weighed
+pub record SurveyPut (t : Survey) (runs : List ℕ) (o o' : Tables) (r : Weighed) : Type 0 where
+  pub weighs : r ≡ standing (surveyC t) (surveyL t) (foundBy (t .hour) runs (o .measured))
+  pub tables : o' ≡ measuredAt (t .hour) (surveyC t) (surveyL t) o
 
 -- whether an hour has an enforcement survey, by the flags of a quarter's hours
 unfoldable pub beats : List ℕ → ℕ → Bool
 beats flags h = ltb h mostHours && eqb (getD flags h 0) 1
 
 -- a plant survey: beaten by an enforcement survey at its hour, or one that stands
-pub record PlantPut (t : Survey) (beaten measured : Bool) (conc flow conc' flow' : List ℕ) (r : Weighed) : Type 0 where
-  pub weighs : r ≡ pick beaten nothing (standing (surveyC t) (surveyL t))
-  pub concentrations : conc' ≡ pick beaten conc (replacedCell measured (t .hour) (surveyC t) conc)
-  pub flows : flow' ≡ pick beaten flow (replacedCell measured (t .hour) (surveyL t) flow)
+pub record PlantPut (t : Survey) (beaten : Bool) (runs : List ℕ) (o o' : Tables) (r : Weighed) : Type 0 where
+  pub weighs : r ≡ pick beaten nothing (standing (surveyC t) (surveyL t) (foundBy (t .hour) runs (o .measured)))
+  pub tables : o' ≡ pick beaten o (measuredAt (t .hour) (surveyC t) (surveyL t) o)

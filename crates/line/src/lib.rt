@@ -1,4 +1,5 @@
 // The figures of a line: the larger sulphur, its hours, c x l, its row; a survey put in and weighed.
+mod marked;
 mod surveyed;
 
 use rules::View;

@@ -1,40 +1,40 @@
 // A survey put in at its hour of a line's period, and weighed.
+use crate::marked::mark_state;
+use crate::marked::put_cell;
 use crate::product;
 use rules::Survey;
 ghost use mathlib.Core.Path.{_≡_};
-ghost use Rattle.rules.specs.Hours.{runsAt};
-ghost use Rattle.line.specs.Put.{replacedCell, beats, SurveyPut, PlantPut};
+ghost use Rattle.line.specs.Put.{inTables, beats, SurveyPut, PlantPut};
 
-// What a survey adds to those of a line: one hour and its c x l, or nothing.
+// What a survey adds to those of a line: one hour and its c x l, or nothing; and how many missing hours fewer the line has.
 pub struct Weighed {
     pub count: u32,
     pub weight: u64,
+    pub found: u32,
 }
 
-// "A survey replaces both readings of a measured hour"; one in a missing hour changes nothing there.
-fn replace(measured: &[u32; 92], hour: u16, v: u32, cells: &mut [u32])
-    ensures { λ _. ⌜ now (cells .exit) ≡ replacedCell (runsAt (now (measured .entry)) hour) hour v (now (cells .entry)) ⌝ }
-{
-    let h = hour as usize;
-    if h >= cells.len() {
-        return;
-    }
-    if hours::runs_at(measured, hour) {
-        cells[h] = v;
-    }
-}
-
-// A survey that stands: rounded, put in where its hour is measured, and weighed.
-pub fn put_survey(t: Survey, measured: &[u32; 92], conc: &mut [u32], flow: &mut [u32]) -> Weighed
-    ensures { λ r. ⌜ SurveyPut t (runsAt (now (measured .entry)) (t .hour)) (now (conc .entry)) (now (flow .entry)) (now (conc .exit)) (now (flow .exit)) r ⌝ }
+// A survey that stands: rounded, its hour measured with its readings, missing or not, and weighed.
+pub fn put_survey(
+    t: Survey,
+    runs: &[u32],
+    measured: &mut [u32],
+    states: &mut [u8],
+    conc: &mut [u32],
+    flow: &mut [u32],
+) -> Weighed
+    ensures { λ r. ⌜ SurveyPut t (now (runs .entry)) (inTables (now (measured .entry)) (now (states .entry)) (now (conc .entry)) (now (flow .entry)))
+        (inTables (now (measured .exit)) (now (states .exit)) (now (conc .exit)) (now (flow .exit))) r ⌝ }
 {
     let p = t.pair;
     let f = reading::flagged_pair(p.concentration, p.flow);
-    replace(measured, t.hour, f.concentration, conc);
-    replace(measured, t.hour, f.flow, flow);
+    let found = hours::mark_measured(runs, measured, t.hour);
+    mark_state(t.hour, states);
+    put_cell(t.hour, f.concentration, conc);
+    put_cell(t.hour, f.flow, flow);
     Weighed {
         count: 1,
         weight: product(f.concentration, f.flow),
+        found,
     }
 }
 
@@ -53,17 +53,21 @@ fn is_flagged(flags: &[u32; 2208], hour: u16) -> bool
 pub fn put_plant(
     t: Survey,
     flags: &[u32; 2208],
-    measured: &[u32; 92],
+    runs: &[u32],
+    measured: &mut [u32],
+    states: &mut [u8],
     conc: &mut [u32],
     flow: &mut [u32],
 ) -> Weighed
-    ensures { λ r. ⌜ PlantPut t (beats (now (flags .entry)) (t .hour)) (runsAt (now (measured .entry)) (t .hour)) (now (conc .entry)) (now (flow .entry)) (now (conc .exit)) (now (flow .exit)) r ⌝ }
+    ensures { λ r. ⌜ PlantPut t (beats (now (flags .entry)) (t .hour)) (now (runs .entry)) (inTables (now (measured .entry)) (now (states .entry)) (now (conc .entry)) (now (flow .entry)))
+        (inTables (now (measured .exit)) (now (states .exit)) (now (conc .exit)) (now (flow .exit))) r ⌝ }
 {
     if is_flagged(flags, t.hour) {
         return Weighed {
             count: 0,
             weight: 0,
+            found: 0,
         };
     }
-    put_survey(t, measured, conc, flow)
+    put_survey(t, runs, measured, states, conc, flow)
 }

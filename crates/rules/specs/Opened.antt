@@ -3,7 +3,7 @@ use Rattle.field.specs.Opened.{fields}
 use Rattle.reading.specs.Opened.{readings}
 use Rattle.rules.specs.Records.{headOf, pairOf, masksOf, dayOf, surveyOf, batchOf, bodyOf, recordIn, sizeIn, recordsFrom, recordsOf}
 use Rattle.rules.specs.Hours.{bit, pairAt, slotOf, slotsOf, runningOf, missingOf, running, lacking, runMasks, measuredMasks, runsAt, lacksAt, firstMissing}
-use Rattle.rules.specs.Lines.{surveyAt, replaced, replacedFrom, hours, hasSurvey, besides, surveyed, surveys, fuel}
+use Rattle.rules.specs.Lines.{hasSurvey, besides, surveyed, withBit, withPair, measuredWith, atDay, putSurvey, putSurveys, daysAfter, hours, surveys, fuel}
 use Rattle.rules.specs.Method.{isAutomatic, isManual, methodOf, method}
 use Rattle.rules.specs.Slots.{run, valids, mapSlot, entry, entries}
 use Rattle.rules.specs.Fill.{zeroes, cs, ls, window, short, long, fill, fillBoth, meanUp, same, filled, unfilled}
@@ -17,5 +17,5 @@ use Rattle.rules.specs.Walk.{floorOf, surveysOf, viewOf, runsOf, begun, 
 use Rattle.rules.specs.Account.{refusal, acceptance, rowsFit, workFits, answerFrom, answerOf, rowsFrom, rowsAfter, cellsFrom, workAfter}
 
 unfoldable pub rules : Type 0
-unfolding fields readings headOf pairOf masksOf dayOf surveyOf batchOf bodyOf recordIn sizeIn recordsFrom recordsOf bit pairAt slotOf slotsOf runningOf missingOf running lacking runMasks measuredMasks runsAt lacksAt firstMissing surveyAt replaced replacedFrom hours hasSurvey besides surveyed surveys fuel isAutomatic isManual methodOf method run valids mapSlot entry entries zeroes cs ls window short long fill fillBoth meanUp same filled unfilled at q k class tableA1 noClass classOf isPulverised isGrate grateDust dustEntry oxidesEntry balanceOf oxidesOf dustOf coefficientsOf recordOnPaper coefficientsOnPaper valuesOf slots hourly amount automatic surveyValues manual sulphurOf fuelTop fuelBottom fuelGrams grams rowOf rowsOf totalOf totalsOf held cells concentrationCells flowCells headFields straysOf maskFields measuredFields blankFields hourFields readingFields surveyFields batchFields refuse fine first key placeHead firstWrong rangeHead placeDay rangeMasks blamed judgePair judgeHours surveysLeft surveyTests placeEnforcement placePlant judgeStopped judgeSurvey placeBatch rangeBatch judgeEntry placeEnd judgeFuel judgeRecord judgeReadings judge atPlace floorOf surveysOf viewOf runsOf begun withDay withEnforcement withPlant withBatch takenBetween takenInside taken ended faultOf walk outcome refusal acceptance rowsFit workFits answerFrom answerOf rowsFrom rowsAfter cellsFrom workAfter
+unfolding fields readings headOf pairOf masksOf dayOf surveyOf batchOf bodyOf recordIn sizeIn recordsFrom recordsOf bit pairAt slotOf slotsOf runningOf missingOf running lacking runMasks measuredMasks runsAt lacksAt firstMissing hasSurvey besides surveyed withBit withPair measuredWith atDay putSurvey putSurveys daysAfter hours surveys fuel isAutomatic isManual methodOf method run valids mapSlot entry entries zeroes cs ls window short long fill fillBoth meanUp same filled unfilled at q k class tableA1 noClass classOf isPulverised isGrate grateDust dustEntry oxidesEntry balanceOf oxidesOf dustOf coefficientsOf recordOnPaper coefficientsOnPaper valuesOf slots hourly amount automatic surveyValues manual sulphurOf fuelTop fuelBottom fuelGrams grams rowOf rowsOf totalOf totalsOf held cells concentrationCells flowCells headFields straysOf maskFields measuredFields blankFields hourFields readingFields surveyFields batchFields refuse fine first key placeHead firstWrong rangeHead placeDay rangeMasks blamed judgePair judgeHours surveysLeft surveyTests placeEnforcement placePlant judgeStopped judgeSurvey placeBatch rangeBatch judgeEntry placeEnd judgeFuel judgeRecord judgeReadings judge atPlace floorOf surveysOf viewOf runsOf begun withDay withEnforcement withPlant withBatch takenBetween takenInside taken ended faultOf walk outcome refusal acceptance rowsFit workFits answerFrom answerOf rowsFrom rowsAfter cellsFrom workAfter
 rules = Unit

@@ -17,7 +17,7 @@ use Rattle.rules.specs.declared.Head.{Head}
 use Rattle.rules.specs.declared.View.{View}
 use Rattle.rules.specs.declared.Coefficients.the-variants.{NoEntry}
 use Rattle.rules.specs.Hours.{running, lacking, runMasks, measuredMasks, firstMissing}
-use Rattle.rules.specs.Lines.{Line, surveys, fuel}
+use Rattle.rules.specs.Lines.{Line, daysAfter, surveys, fuel}
 use Rattle.rules.specs.Method.{methodOf, method}
 use Rattle.rules.specs.Tables.{coefficientsOf}
 use Rattle.rules.specs.Fill.{Values, cs, ls, filled, unfilled}
@@ -49,7 +49,7 @@ use Rattle.walk.proofs.Standing.{put-length}
 pub method-is : (x : Line) (done : List Line) → lineMethod (viewOf (Inside x done)) ≡ method x
 unfolding viewOf method surveys
 method-is x done =
-    ap₂ (λ (a b : ℕ). methodOf (x .head) (a + b) (running (x .days)) (lacking (x .days))) (survey-count (x .enforcement)) (survey-count (x .plant))
+    ap₂ (λ (a b : ℕ). methodOf (x .head) (a + b) (running (x .days)) (lacking (daysAfter x))) (survey-count (x .enforcement)) (survey-count (x .plant))
 
 -- a cell is within the limit of its quantity
 table-most : (f : ℕ → ℕ) (M : ℕ) → ((h : ℕ) → f h ≤ M) → (h : ℕ) → Dec (h < mostHours) → getD (table f mostHours) h 0 ≤ M
@@ -61,7 +61,7 @@ cells-most {value} {most} c h = subst (λ (l : List ℕ). getD l h 0 ≤ most) (
 
 -- ---- method 1: what is weighed is the sum of the filled hours
 module _ (x : Line) (few : length (x .days) ≤ mostDays) where
-  weighed : periodWeight (length (x .days)) (filledCells (periodStates (runMasks (x .days)) (measuredMasks (x .days)) (length (x .days))) (table (λ h. valuesAt x h .c) mostHours)) (filledCells (periodStates (runMasks (x .days)) (measuredMasks (x .days)) (length (x .days))) (table (λ h. valuesAt x h .l) mostHours))
+  weighed : periodWeight (length (x .days)) (filledCells (periodStates (runMasks (x .days)) (measuredMasks (daysAfter x)) (length (x .days))) (table (λ h. valuesAt x h .c) mostHours)) (filledCells (periodStates (runMasks (x .days)) (measuredMasks (daysAfter x)) (length (x .days))) (table (λ h. valuesAt x h .l) mostHours))
       ≡ sumOf amount (hourly filled x)
   weighed = ap₂ products (filled-concentrations x few .0) (filled-flows x few .0) ∙ sym (products-amounts (hourly filled x))
 
@@ -112,10 +112,10 @@ module _ (x : Line) (done : List Line) (v : View) (s : Sums) (o : Open) (d : Don
     few = omega (arith, k .books .period)
 
     abbrev lineStates : List ℕ
-    lineStates = periodStates (runMasks (x .days)) (measuredMasks (x .days)) (v .head .days)
+    lineStates = periodStates (runMasks (x .days)) (measuredMasks (daysAfter x)) (v .head .days)
 
     abbrev lineFirst : ℕ
-    lineFirst = firstMissing (runMasks (x .days)) (measuredMasks (x .days)) (v .head .days)
+    lineFirst = firstMissing (runMasks (x .days)) (measuredMasks (daysAfter x)) (v .head .days)
 
     v-head : v .head ≡ x .head
     unfolding viewOf
@@ -128,7 +128,7 @@ module _ (x : Line) (done : List Line) (v : View) (s : Sums) (o : Open) (d : Don
     unfolding viewOf
     v-running = ap (λ (w : View). w .running) (k .view)
 
-    v-missing : v .missing ≡ lacking (x .days)
+    v-missing : v .missing ≡ lacking (daysAfter x)
     unfolding viewOf
     v-missing = ap (λ (w : View). w .missing) (k .view)
 
@@ -155,7 +155,7 @@ module _ (x : Line) (done : List Line) (v : View) (s : Sums) (o : Open) (d : Don
       closes-by true q t u =
           let z = eqb-true (method x) 1 t in
           let f = l .automatic (v-method ∙ z) in
-          let state : ℕ → List ℕ = λ n. periodStates (runMasks (x .days)) (measuredMasks (x .days)) n in
+          let state : ℕ → List ℕ = λ n. periodStates (runMasks (x .days)) (measuredMasks (daysAfter x)) n in
           let c : conc' ≡ filledCells (state (length (x .days))) (table (λ h. valuesAt x h .c) mostHours) = f .concentrations ∙ ap₂ (λ (n : ℕ) (t : List ℕ). filledCells (state n) t) v-days (k .books .concentrations .hold) in
           let w : flow' ≡ filledCells (state (length (x .days))) (table (λ h. valuesAt x h .l) mostHours) = f .flows ∙ ap₂ (λ (n : ℕ) (t : List ℕ). filledCells (state n) t) v-days (k .books .flows .hold) in
           record {
@@ -194,7 +194,7 @@ module _ (x : Line) (done : List Line) (v : View) (s : Sums) (o : Open) (d : Don
       unfolding rowOf
       row-is =
           row-same _ _ _ _ _ _ _ _ _ _ _ _ _ _ (ap (λ (h : Head). h .stack) v-head) (ap (λ (h : Head). h .pollutant) v-head)
-          v-method (shut .figure) v-running v-missing (ap (firstMissing (runMasks (x .days)) (measuredMasks (x .days))) v-days)
+          v-method (shut .figure) v-running v-missing (ap (firstMissing (runMasks (x .days)) (measuredMasks (daysAfter x))) v-days)
 
       rows-now : d' .rows ≡ (rowsOf done ++ rowOf x) ++ drop (rowCells * suc (length done)) noRows
       rows-now =
@@ -230,7 +230,7 @@ module _ (x : Line) (done : List Line) (v : View) (s : Sums) (o : Open) (d : Don
       totals-now =
           e .totalsNow
           ∙ ap (λ (t : List ℕ). set t own (e .grams + getD (d .totals) own 0)) (k .done .totals)
-          ∙ table-set (λ i. totalOf (i + 1) done) (λ i. totalOf (i + 1) (x ∷ done)) totalCells own (e .grams + getD (d .totals) own 0) 0 own-less (sym own-total) other-total
+          ∙ table-set (λ i. totalOf (i + 1) done) (λ i. totalOf (i + 1) (x ∷ done)) totalCells own (e .grams + getD (d .totals) own 0) 0 own-less (sym own-total) (λ i l. other-total i)
 
       total-most : (i : ℕ) → getD (d' .totals) i 0 ≤ suc (length done) * mostGrams
       total-most i =

@@ -11,16 +11,16 @@ use Rattle.law.specs.Words.{pick, table}
 use Rattle.law.proofs.Tests.{pick-case}
 use Rattle.law.proofs.Tabled.{table-length, table-at, table-is}
 use Rattle.rules.specs.declared.Pair.{Pair}
-use Rattle.rules.specs.declared.Survey.{Survey}
 use Rattle.rules.specs.Slots.{Slot, valid, missing, stopped, mapSlot, entry, entries}
 use Rattle.rules.specs.Hours.{slotsOf, runMasks, measuredMasks}
-use Rattle.rules.specs.Lines.{Line, surveyAt, replaced, replacedFrom, hours}
+use Rattle.rules.specs.Lines.{Line, daysAfter, hours}
 use Rattle.rules.specs.Fill.{Values, zeroes, cs, ls, fill, meanUp, same, filled, unfilled}
 use Rattle.rules.specs.Grams.{valuesOf, slots, hourly}
 use Rattle.rules.specs.Method.{method}
 use Rattle.rules.specs.Row.{cells, held}
 use Rattle.hours.specs.States.{stateAt}
 use Rattle.rules.proofs.Days.{length-slots}
+use Rattle.rules.proofs.Surveyed.{days-length, days-runs}
 use Rattle.hours.proofs.Laws.{slotState, slotIn, state-slot}
 use Rattle.fills.specs.Gaps.{slotAt, row, filledCells}
 use Rattle.rules.proofs.Slots.{entries-length, line-at}
@@ -30,55 +30,20 @@ use Rattle.walk.specs.Books.{inCell, valuesAt}
 use Rattle.walk.proofs.Hours.{past-zero}
 
 -- ---- an hour of the line after step 1
-module _ (es ps : List Survey) where
-  replaced-length : (k : ℕ) (os : List (Slot Pair)) → length (replacedFrom es ps k os) ≡ length os
-  unfolding replacedFrom
-  replaced-length k [] = refl
-  replaced-length k (o ∷ os) = ap suc (replaced-length (k + 1) os)
-
-  replaced-at : (k : ℕ) (os : List (Slot Pair)) (h : ℕ) → h < length os → getD (replacedFrom es ps k os) h stopped ≡ replaced es ps (k + h) (getD os h stopped)
-  unfolding replacedFrom
-  replaced-at k [] h l = absurd (omega arith)
-  replaced-at k (o ∷ os) zero l = ap (λ (j : ℕ). replaced es ps j o) (let e : k ≡ k + 0 = omega arith in e)
-  replaced-at k (o ∷ os) (suc h) l =
-      replaced-at (k + 1) os h (omega arith) ∙ ap (λ (j : ℕ). replaced es ps j (getD os h stopped)) (let e : k + 1 + h ≡ k + suc h = omega arith in e)
-
 module _ (x : Line) where
   abbrev N : ℕ
   N = hoursOfDay * length (x .days)
 
   abbrev slotNow : ℕ → Slot Pair
-  slotNow h = replaced (x .enforcement) (x .plant) h (getD (slotsOf (x .days)) h stopped)
-
-  hours-length : length (hours x) ≡ N
-  unfolding hours
-  hours-length = replaced-length (x .enforcement) (x .plant) 0 (slotsOf (x .days)) ∙ length-slots (x .days)
-
-  hours-at : (h : ℕ) → h < N → getD (hours x) h stopped ≡ slotNow h
-  unfolding hours
-  hours-at h l =
-      replaced-at (x .enforcement) (x .plant) 0 (slotsOf (x .days)) h (omega (arith, length-slots (x .days)))
-      ∙ ap (λ (j : ℕ). replaced (x .enforcement) (x .plant) j (getD (slotsOf (x .days)) h stopped)) (let e : 0 + h ≡ h = omega arith in e)
+  slotNow h = getD (slotsOf (daysAfter x)) h stopped
 
   slots-long : length (slots x) ≡ N
-  unfolding slots
-  slots-long = length-map (hours x) (mapSlot valuesOf) ∙ hours-length
+  unfolding slots hours
+  slots-long = length-map (slotsOf (daysAfter x)) (mapSlot valuesOf) ∙ length-slots (daysAfter x) ∙ ap (λ (n : ℕ). hoursOfDay * n) (days-length x)
 
-  slots-at : (h : ℕ) → h < N → getD (slots x) h stopped ≡ mapSlot valuesOf (slotNow h)
-  unfolding slots mapSlot
-  slots-at h l = List·getD-map (mapSlot valuesOf) (hours x) h stopped ∙ ap (mapSlot valuesOf) (hours-at h l)
-
--- ---- a survey changes no hour's state
-survey-state : (h : ℕ) (ss : List Survey) (o : Slot Pair) → slotState o ≡ 2 → slotState (surveyAt h ss o) ≡ 2
-unfolding surveyAt slotState
-survey-state h [] o e = e
-survey-state h (s ∷ ss) o e = pick-case (λ (t : Slot Pair). slotState t ≡ 2) (eqb h (s .hour)) (valid (s .pair)) (surveyAt h ss o) (λ _. refl) (λ _. survey-state h ss o e)
-
-replaced-state : (es ps : List Survey) (h : ℕ) (o : Slot Pair) → slotState (replaced es ps h o) ≡ slotState o
-unfolding replaced slotState
-replaced-state es ps h (valid p) = survey-state h es (surveyAt h ps (valid p)) (survey-state h ps (valid p) refl)
-replaced-state es ps h missing = refl
-replaced-state es ps h stopped = refl
+  slots-at : (h : ℕ) → getD (slots x) h stopped ≡ mapSlot valuesOf (slotNow h)
+  unfolding slots hours mapSlot
+  slots-at h = List·getD-map (mapSlot valuesOf) (slotsOf (daysAfter x)) h stopped
 
 -- a slot by its state and the value of its hour
 slot-by : (f : Values → ℕ) (o : Slot Pair) → mapSlot f (mapSlot valuesOf o) ≡ slotIn (slotState o) (f (inCell o))
@@ -95,7 +60,7 @@ stopped-zero f z stopped e = z
 
 -- ---- one quantity f of the line's hours: states and cells are its slots
 abbrev pub lineStates : Line → List ℕ
-lineStates x = table (stateAt (runMasks (x .days)) (measuredMasks (x .days))) (hoursOfDay * length (x .days))
+lineStates x = table (stateAt (runMasks (x .days)) (measuredMasks (daysAfter x))) (hoursOfDay * length (x .days))
 
 abbrev pub lineValues : (Values → ℕ) → Line → List ℕ
 lineValues f x = table (λ h. f (valuesAt x h)) mostHours
@@ -108,13 +73,13 @@ module _ (x : Line) (few : length (x .days) ≤ mostDays) (f : Values → ℕ) (
   values = lineValues f x
 
   all-hours : length states ≡ N x
-  all-hours = table-length (stateAt (runMasks (x .days)) (measuredMasks (x .days))) (N x)
+  all-hours = table-length (stateAt (runMasks (x .days)) (measuredMasks (daysAfter x))) (N x)
 
   slot-is : (h : ℕ) → h < N x → slotAt states values h ≡ mapSlot f (mapSlot valuesOf (slotNow x h))
   unfolding slotAt slotIn valuesAt
   slot-is h l =
-      ap₂ (λ (s v : ℕ). slotIn s v) (table-at (stateAt (runMasks (x .days)) (measuredMasks (x .days))) (N x) h 0 l) (table-at (λ k. f (valuesAt x k)) mostHours h 0 (omega arith))
-      ∙ ap (λ (s : ℕ). slotIn s (f (inCell (slotNow x h)))) (sym (replaced-state (x .enforcement) (x .plant) h (getD (slotsOf (x .days)) h stopped) ∙ state-slot (x .days) h))
+      ap₂ (λ (s v : ℕ). slotIn s v) (table-at (stateAt (runMasks (x .days)) (measuredMasks (daysAfter x))) (N x) h 0 l) (table-at (λ k. f (valuesAt x k)) mostHours h 0 (omega arith))
+      ∙ ap (λ (s : ℕ). slotIn s (f (inCell (slotNow x h)))) (sym (state-slot (daysAfter x) h ∙ ap (λ (r : List ℕ). stateAt r (measuredMasks (daysAfter x)) h) (days-runs x)))
       ∙ sym (slot-by f (slotNow x h))
 
   slots-are : row states values ≡ map (mapSlot f) (slots x)
@@ -122,7 +87,7 @@ module _ (x : Line) (few : length (x .days) ≤ mostDays) (f : Values → ℕ) (
   slots-are =
       ap (table (slotAt states values)) all-hours
       ∙ sym (table-is (slotAt states values) (N x) stopped (map (mapSlot f) (slots x)) (length-map (slots x) (mapSlot f) ∙ slots-long x)
-      (λ h l. List·getD-map (mapSlot f) (slots x) h stopped ∙ ap (mapSlot f) (slots-at x h l) ∙ sym (slot-is h l)))
+      (λ h l. List·getD-map (mapSlot f) (slots x) h stopped ∙ ap (mapSlot f) (slots-at x h) ∙ sym (slot-is h l)))
 
   still : (h : ℕ) → h < length states → slotAt states values h ≡ stopped → getD values h 0 ≡ 0
   unfolding valuesAt
@@ -176,7 +141,7 @@ module _ (x : Line) (few : length (x .days) ≤ mostDays) where
   unfolding hourly valuesAt
   unfilled-at h l =
       line-at (λ v. v) unfilled zeroes (slots x) h zeroes (omega (arith, slots-long x))
-      ∙ ap (λ (o : Slot Values). entry (λ v. v) unfilled zeroes (reverse (take h (slots x))) o (drop (h + 1) (slots x))) (slots-at x h l)
+      ∙ ap (λ (o : Slot Values). entry (λ v. v) unfilled zeroes (reverse (take h (slots x))) o (drop (h + 1) (slots x))) (slots-at x h)
       ∙ entry-plain (reverse (take h (slots x))) (drop (h + 1) (slots x)) (slotNow x h)
 
   unfilled-long : (f : Values → ℕ) → length (map f (hourly unfilled x)) ≡ N x

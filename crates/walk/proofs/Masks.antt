@@ -6,22 +6,21 @@ use mathlib.Core.List.{List, [], _∷_, _++_, append-nil, append-assoc}
 use Prim.Native.Nat.{ℕ, zero, suc, _+_, _-_, _*_, _/_, _%_, _<_, _≤_}
 use native.Mathlib.Omega.{arith}
 use lib.ListN.{length, take, drop, getD, set, length-append, length-take}
-use lib.Seq.{getD-take, take-at, getD-set-same, getD-set-other}
+use lib.Seq.{getD-take, take-at, take-set-lt, getD-set-same, getD-set-other}
 use lib.Dec.{eqb}
 use Rattle.law.specs.Numbers.{hoursOfDay}
 use Rattle.law.specs.Words.{pick, table, seek}
-use Rattle.law.proofs.Tabled.{table-length, table-same}
-use Rattle.rules.specs.Hours.{bit, runsAt, lacksAt, firstMissing}
+use Rattle.law.proofs.Tabled.{table-length, table-same, table-set}
+use Rattle.rules.specs.Hours.{bit, missingOf, lacksAt, firstMissing}
+use Rattle.rules.specs.Lines.{withBit}
 use Rattle.hours.specs.States.{stateOf, stateAt, periodStates}
+use Rattle.hours.specs.Marks.{maskOf, withMeasured, foundBy}
 use Rattle.hours.proofs.Laws.{state-day}
+use Rattle.hours.proofs.Marked.{state-own, state-other}
 use Rattle.walk.specs.Books.{putFrom}
 
 mask-kept : (n : ℕ) (masks own : List ℕ) (h : ℕ) → take n masks ≡ own → h < hoursOfDay * n → getD masks (h / hoursOfDay) 0 ≡ getD own (h / hoursOfDay) 0
 mask-kept n masks own h e l = sym (getD-take n masks (h / hoursOfDay) 0 (omega arith)) ∙ ap (λ (t : List ℕ). getD t (h / hoursOfDay) 0) e
-
-pub runs-kept : (n : ℕ) (masks own : List ℕ) (h : ℕ) → take n masks ≡ own → h < hoursOfDay * n → runsAt masks h ≡ runsAt own h
-unfolding runsAt
-runs-kept n masks own h e l = ap (λ (m : ℕ). eqb (bit (h % hoursOfDay) m) 1) (mask-kept n masks own h e l)
 
 seek-same : (hit hit' : ℕ → Bool) (answer : ℕ → ℕ) (none i n : ℕ) → ((h : ℕ) → h < i + n → hit h ≡ hit' h) → seek hit answer none i n ≡ seek hit' answer none i n
 unfolding seek
@@ -71,3 +70,23 @@ module _ (runs measured : List ℕ) (n r m : ℕ) (lr : n < length runs) (lm : n
       ap (take (hoursOfDay * suc n)) (sym (append-assoc front own rest)) ∙ take-at (front ++ own) rest (hoursOfDay * suc n) long
       ∙ ap₂ _++_ (kept ∙ table-same (stateAt runs measured) after (hoursOfDay * n) old-state) (table-same (stateOf r m) (λ k. after (hoursOfDay * n + k)) hoursOfDay own-state)
       ∙ sym (ap (table after) (let z : hoursOfDay * suc n ≡ hoursOfDay * n + hoursOfDay = omega arith in z) ∙ table-add after (hoursOfDay * n) hoursOfDay)
+
+-- ---- a survey more: its hour is marked
+module _ (runs measured states : List ℕ) (n h : ℕ) (l : h < hoursOfDay * n) (few : n ≤ length measured) where
+  in-masks : h / hoursOfDay < length measured
+  in-masks = omega arith
+
+  pub states-marked : take (hoursOfDay * n) states ≡ periodStates runs measured n → take (hoursOfDay * n) (set states h 2) ≡ periodStates runs (withMeasured h measured) n
+  states-marked kept =
+      take-set-lt (hoursOfDay * n) states h 2 l ∙ ap (λ (t : List ℕ). set t h 2) kept
+      ∙ table-set (stateAt runs measured) (stateAt runs (withMeasured h measured)) (hoursOfDay * n) h 2 0 l (state-own runs measured h in-masks) (λ k m e. state-other runs measured h in-masks k e)
+
+  pub masks-marked : (own : List ℕ) → take n measured ≡ own → take n (withMeasured h measured) ≡ set own (h / hoursOfDay) (withBit (h % hoursOfDay) (getD own (h / hoursOfDay) 0))
+  masks-marked own kept =
+      take-set-lt n measured (h / hoursOfDay) (withBit (h % hoursOfDay) (maskOf h measured)) (omega arith)
+      ∙ ap₂ (λ (t : List ℕ) (m : ℕ). set t (h / hoursOfDay) (withBit (h % hoursOfDay) m)) kept (mask-kept n measured own h kept l)
+
+-- how many missing hours it finds, by the masks of the line's own days
+pub found-kept : (n h : ℕ) (runs measured r m : List ℕ) → take n runs ≡ r → take n measured ≡ m → h < hoursOfDay * n → foundBy h runs measured ≡ foundBy h r m
+found-kept n h runs measured r m kr km l =
+    ap₂ (λ (i j : ℕ). missingOf i j - missingOf i (withBit (h % hoursOfDay) j)) (mask-kept n runs r h kr l) (mask-kept n measured m h km l)

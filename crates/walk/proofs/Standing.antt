@@ -1,8 +1,8 @@
 -- The code's state stands for the lines after each record that is taken in. Assumes nothing.
-use mathlib.Core.Path.{_≡_, refl, _∙_, sym, ap, ap₂, subst}
+use mathlib.Core.Path.{_≡_, refl, _∙_, sym, ap, ap₂, subst, subst₂}
 use mathlib.Core.Bool.{Bool, true, false}
 use mathlib.Core.List.{List, []}
-use Prim.Native.Nat.{ℕ, _+_, _*_, _<_, _≤_}
+use Prim.Native.Nat.{ℕ, _+_, _-_, _*_, _<_, _≤_}
 use native.Mathlib.Omega.{arith}
 use lib.ListN.{length, getD, set, length-set, length-append, length-take, length-drop}
 use lib.Dec.{eqb}
@@ -19,8 +19,9 @@ use Rattle.rules.specs.declared.Batch.{Batch}
 use Rattle.rules.specs.declared.View.{View}
 use Rattle.rules.specs.Records.{Day, masksOf, dayOf}
 use Rattle.rules.specs.Slots.{valid, missing, stopped}
-use Rattle.rules.specs.Hours.{bit, pairAt, slotOf, measuredMasks, runsAt}
-use Rattle.rules.specs.Lines.{Line, hasSurvey, surveys, fuel}
+use Rattle.rules.specs.Hours.{bit, pairAt, slotOf, lacking}
+use Rattle.rules.specs.Lines.{Line, hasSurvey, daysAfter, surveys, fuel}
+use Rattle.hours.specs.Marks.{foundBy}
 use Rattle.rules.specs.Fill.{Values, zeroes}
 use Rattle.rules.specs.Grams.{valuesOf}
 use Rattle.rules.specs.Judge.{fine, judgeHours}
@@ -34,10 +35,10 @@ use Rattle.walk.specs.Books.{putFrom, inCell, flagAt, Open, inOpen, Done
 use Rattle.walk.proofs.Cleared.{cleared-all}
 use Rattle.walk.specs.Taking.{HeadTaken, DayTaken, EnforcementTaken, PlantTaken, BatchTaken}
 use Rattle.line.specs.declared.surveyed.Weighed.{Weighed}
-use Rattle.line.specs.Put.{replacedCell, surveyC, surveyL, standing, nothing, beats}
+use Rattle.line.specs.Put.{Tables, inTables, surveyC, surveyL, standing, nothing, measuredAt, beats}
 use Rattle.line.proofs.Surveys.{beats-within}
 use Rattle.walk.proofs.Views.{view-head, view-day, view-enforcement, view-plant, view-batch}
-use Rattle.walk.proofs.Steps.{begun-books, day-books, enforcement-books, beaten-books, plant-books, batch-books}
+use Rattle.walk.proofs.Steps.{begun-books, day-books, enforcement-books, enforcement-lacking, plant-books, plant-lacking, days-beaten, beaten-books, batch-books}
 
 -- the same books under other names
 books-as : (x : Line) {s t : Sums} {o p : Open} → LineBooks x s o → t ≡ s → p ≡ o → LineBooks x t p
@@ -126,7 +127,7 @@ kept-day x done bytes v s o e runs' measured' states' conc' flow' r k more turn 
     let ec : conc' ≡ putFrom cv hoursOfDay (hoursOfDay * n) (o .concentrations) = t .concNow ok ∙ ap (λ (i : ℕ). putFrom cv hoursOfDay (hoursOfDay * i) (o .concentrations)) turn in
     let el : flow' ≡ putFrom lv hoursOfDay (hoursOfDay * n) (o .flows) = t .flowNow ok ∙ ap (λ (i : ℕ). putFrom lv hoursOfDay (hoursOfDay * i) (o .flows)) turn in
     let books = day-books x d (k .books) more cv lv (day-c d f) (day-l d f) (λ i l. concentration-most d i) (λ i l. flow-most d i) (k .long) in
-    kept-line x (withDay x d) done k (t .view ok ∙ ap (λ (w : View). afterDay w m) (k .view) ∙ view-day x done d)
+    kept-line x (withDay x d) done k (t .view ok ∙ ap (λ (w : View). afterDay w m) (k .view) ∙ view-day x done d (k .books .early more .0) (k .books .early more .1))
     (long-as _ _ _ _ _ _ (k .long) (ap length er ∙ length-set (o .runs) n (m .run)) (ap length em ∙ length-set (o .measured) n (m .measured))
     (ap length es ∙ put-length sv hoursOfDay (hoursOfDay * n) (o .states) (omega (arith, k .books .period, k .long .states))) refl
     (ap length ec ∙ put-length cv hoursOfDay (hoursOfDay * n) (o .concentrations) (omega (arith, k .books .period, k .long .concentrations)))
@@ -162,74 +163,79 @@ unfolding pick
 flag-bit true = refl
 flag-bit false = refl
 
--- a cell is set or left: the slice keeps its length
-pick-length : (b : Bool) (cells : List ℕ) (h v : ℕ) → length (pick b (set cells h v) cells) ≡ length cells
-unfolding pick
-pick-length true cells h v = length-set cells h v
-pick-length false cells h v = refl
-
 module _ (x : Line) (done : List Line) (v : View) (s : Sums) (t : Survey) (o : Open) (d : Done) (k : Kept (Inside x done) v s o d)
     (hour : t .hour < hoursOfDay * x .head .days) (all-days : length (x .days) ≡ x .head .days) (room : surveys x < mostSurveys) (ok : PairAccepted (t .pair))
   where
-    abbrev here : Bool
-    here = runsAt (measuredMasks (x .days)) (t .hour)
+    abbrev c : ℕ
+    c = valuesOf (t .pair) .c
 
-    within : t .hour < mostHours
-    within = omega (arith, k .books .period)
+    abbrev l : ℕ
+    l = valuesOf (t .pair) .l
 
-    cell-c : (cells : List ℕ) → replacedCell here (t .hour) (surveyC t) cells ≡ replacedCell here (t .hour) (valuesOf (t .pair) .c) cells
-    cell-c cells = ap (λ (n : ℕ). replacedCell here (t .hour) n cells) (survey-c t ok)
+    abbrev found : ℕ
+    found = foundBy (t .hour) (o .runs) (o .measured)
 
-    cell-l : (cells : List ℕ) → replacedCell here (t .hour) (surveyL t) cells ≡ replacedCell here (t .hour) (valuesOf (t .pair) .l) cells
-    cell-l cells = ap (λ (n : ℕ). replacedCell here (t .hour) n cells) (survey-l t ok)
+    -- its figures are its values
+    figures-are : (P : ℕ → ℕ → Type 0) → P (surveyC t) (surveyL t) → P c l
+    figures-are P p = subst₂ P (survey-c t ok) (survey-l t ok) p
 
-    stands : (w : Weighed) → w ≡ standing (surveyC t) (surveyL t) → withSurvey s w ≡ withSurvey s (standing (valuesOf (t .pair) .c) (valuesOf (t .pair) .l))
-    stands w e = ap (withSurvey s) e ∙ ap₂ (λ (c l : ℕ). withSurvey s (standing c l)) (survey-c t ok) (survey-l t ok)
+    abbrev tables : Tables
+    tables = inTables (o .measured) (o .states) (o .concentrations) (o .flows)
 
-    -- with other flags and other values at one hour the lists are as long as before
-    long-survey : (flags' conc' flow' : List ℕ) (a b : ℕ) → length flags' ≡ length (o .flags) → conc' ≡ replacedCell here (t .hour) a (o .concentrations) → flow' ≡ replacedCell here (t .hour) b (o .flows)
-        → Long (inOpen (o .runs) (o .measured) (o .states) flags' conc' flow')
-    long-survey flags' conc' flow' a b f c l =
-        long-as _ _ _ _ _ _ (k .long) refl refl refl f (ap length c ∙ pick-length here (o .concentrations) (t .hour) a) (ap length l ∙ pick-length here (o .flows) (t .hour) b)
+    -- the lists after it, and how long they are
+    abbrev after : List ℕ → Tables → Open
+    after flags' o' = inOpen (o .runs) (o' .measured) (o' .states) flags' (o' .concentrations) (o' .flows)
 
-    pub kept-enforcement : (flags' conc' flow' : List ℕ) (r : Taken) → x .plant ≡ [] → EnforcementTaken v s t here (o .flags) (o .concentrations) (o .flows) flags' conc' flow' r
-        → Kept (Inside (withEnforcement x t) done) (r .view) (r .sums) (inOpen (o .runs) (o .measured) (o .states) flags' conc' flow') d
-    kept-enforcement flags' conc' flow' r none e =
-        let books = enforcement-books x t within (k .books) all-days none room (most-c t ok) (most-l t ok) hour in
-        kept-line x (withEnforcement x t) done k (e .view ∙ ap (λ (w : View). afterEnforcement w (t .hour)) (k .view) ∙ view-enforcement x done t)
-        (long-survey flags' conc' flow' _ _ (ap length (e .flagsNow) ∙ length-set (o .flags) (t .hour) 1) (e .put .concentrations) (e .put .flows))
-        (books-as (withEnforcement x t) books (e .sums ∙ stands (e .weighed) (e .put .weighs))
-        (open-is _ _ _ _ _ _ _ _ _ _ _ _ refl refl refl (e .flagsNow) (e .put .concentrations ∙ cell-c (o .concentrations)) (e .put .flows ∙ cell-l (o .flows))))
+    long-after : (flags' : List ℕ) → length flags' ≡ length (o .flags) → Long (after flags' (measuredAt (t .hour) c l tables))
+    long-after flags' f =
+        long-as _ _ _ _ _ _ (k .long) refl (length-set (o .measured) _ _) (length-set (o .states) (t .hour) 2) f (length-set (o .concentrations) (t .hour) c) (length-set (o .flows) (t .hour) l)
+
+    -- a survey that stands: the view, the lists and the books, for the line y that has it
+    stands : (y : Line) (flags' : List ℕ) (o' : Tables) (w : Weighed) (r : Taken) → o' ≡ measuredAt (t .hour) (surveyC t) (surveyL t) tables → w ≡ standing (surveyC t) (surveyL t) found
+        → r .sums ≡ withSurvey s w → length flags' ≡ length (o .flags) → (w .found ≡ found → r .view ≡ viewOf (Inside y done)) → LineBooks y (withSurvey s (standing c l found)) (after flags' (measuredAt (t .hour) c l tables))
+        → Kept (Inside y done) (r .view) (r .sums) (after flags' o') d
+    stands y flags' o' w r et ew es f ev books =
+        let e : o' ≡ measuredAt (t .hour) c l tables = figures-are (λ i j. o' ≡ measuredAt (t .hour) i j tables) et in
+        let q : r .sums ≡ withSurvey s (standing c l found) = es ∙ ap (withSurvey s) (figures-are (λ i j. w ≡ standing i j found) ew) in
+        subst (λ (z : Tables). Kept (Inside y done) (r .view) (r .sums) (after flags' z) d) (sym e)
+        (kept-line x y done k (ev (ap (λ (u : Weighed). u .found) ew)) (long-after flags' f) (books-as y books q refl))
+
+    pub kept-enforcement : (flags' : List ℕ) (o' : Tables) (r : Taken) → x .plant ≡ [] → EnforcementTaken v s t (o .runs) (o .flags) tables flags' o' r
+        → Kept (Inside (withEnforcement x t) done) (r .view) (r .sums) (after flags' o') d
+    kept-enforcement flags' o' r none e =
+        subst (λ (fs : List ℕ). Kept (Inside (withEnforcement x t) done) (r .view) (r .sums) (after fs o') d) (sym (e .flagsNow))
+        (stands (withEnforcement x t) (set (o .flags) (t .hour) 1) o' (e .weighed) r (e .put .tables) (e .put .weighs) (e .sums) (length-set (o .flags) (t .hour) 1)
+        (λ q.
+        e .view ∙ ap₂ (λ (w : View) (n : ℕ). afterEnforcement w (t .hour) n) (k .view) q
+        ∙ view-enforcement x done t found (enforcement-lacking x t (k .books) (k .long) all-days hour room (most-c t ok) (most-l t ok) found none))
+        (enforcement-books x t (k .books) (k .long) all-days hour room (most-c t ok) (most-l t ok) found none))
 
     -- a flag is 1 where an enforcement survey stands
     flag-is : getD (o .flags) (t .hour) 0 ≡ flagAt (x .enforcement) (t .hour)
-    flag-is = ap (λ (l : List ℕ). getD l (t .hour) 0) (k .books .surveys .flagged) ∙ table-at (flagAt (x .enforcement)) mostHours (t .hour) 0 within
+    flag-is = ap (λ (l : List ℕ). getD l (t .hour) 0) (k .books .surveys .flagged) ∙ table-at (flagAt (x .enforcement)) mostHours (t .hour) 0 (omega (arith, k .books .period))
 
-    module _ (conc' flow' : List ℕ) (r : Taken) (e : PlantTaken v s t here (o .flags) (o .concentrations) (o .flows) conc' flow' r) where
-      abbrev after : Open
-      after = inOpen (o .runs) (o .measured) (o .states) (o .flags) conc' flow'
-
-      plant-view : r .view ≡ viewOf (Inside (withPlant x t) done)
-      plant-view = e .view ∙ ap (λ (w : View). afterPlant w (t .hour)) (k .view) ∙ view-plant x done t
-
-      plant-by : (b : Bool) → hasSurvey (t .hour) (x .enforcement) ≡ b → beats (o .flags) (t .hour) ≡ b → Kept (Inside (withPlant x t) done) (r .view) (r .sums) after d
+    module _ (o' : Tables) (r : Taken) (e : PlantTaken v s t (o .runs) (o .flags) tables o' r) where
+      plant-by : (b : Bool) → hasSurvey (t .hour) (x .enforcement) ≡ b → beats (o .flags) (t .hour) ≡ b → Kept (Inside (withPlant x t) done) (r .view) (r .sums) (after (o .flags) o') d
       plant-by true h q =
-          let es : r .sums ≡ s = e .sums ∙ ap (withSurvey s) (e .put .weighs ∙ sym (pick-true _ _ _ _ q refl)) ∙ adds-nothing s in
-          let ec : conc' ≡ o .concentrations = e .put .concentrations ∙ sym (pick-true _ _ _ _ q refl) in
-          let el : flow' ≡ o .flows = e .put .flows ∙ sym (pick-true _ _ _ _ q refl) in
-          kept-line x (withPlant x t) done k plant-view (long-as _ _ _ _ _ _ (k .long) refl refl refl refl (ap length ec) (ap length el))
-          (books-as (withPlant x t) (beaten-books x t within (k .books) all-days room h) es (open-is _ _ _ _ _ _ _ _ _ _ _ _ refl refl refl refl ec el))
+          let ew : e .weighed ≡ nothing = e .put .weighs ∙ sym (pick-true _ _ _ _ q refl) in
+          let es : r .sums ≡ s = e .sums ∙ ap (withSurvey s) ew ∙ adds-nothing s in
+          let et : o' ≡ tables = e .put .tables ∙ sym (pick-true _ _ _ _ q refl) in
+          let ev = view-plant x done t 0 (ap lacking (days-beaten x t h) ∙ (let z : lacking (daysAfter x) ≡ lacking (daysAfter x) - 0 = omega arith in z)) in
+          subst (λ (z : Tables). Kept (Inside (withPlant x t) done) (r .view) (r .sums) (after (o .flags) z) d) (sym et)
+          (kept-line x (withPlant x t) done k (e .view ∙ ap₂ (λ (w : View) (n : ℕ). afterPlant w (t .hour) n) (k .view) (ap (λ (u : Weighed). u .found) ew) ∙ ev) (k .long)
+          (books-as (withPlant x t) (beaten-books x t h (k .books) all-days room) es refl))
       plant-by false h q =
-          let es : r .sums ≡ withSurvey s (standing (valuesOf (t .pair) .c) (valuesOf (t .pair) .l)) = e .sums ∙ stands (e .weighed) (e .put .weighs ∙ sym (pick-false _ _ _ _ q refl)) in
-          let ec : conc' ≡ replacedCell here (t .hour) (valuesOf (t .pair) .c) (o .concentrations) = e .put .concentrations ∙ sym (pick-false _ _ _ _ q refl) ∙ cell-c (o .concentrations) in
-          let el : flow' ≡ replacedCell here (t .hour) (valuesOf (t .pair) .l) (o .flows) = e .put .flows ∙ sym (pick-false _ _ _ _ q refl) ∙ cell-l (o .flows) in
-          let books = plant-books x t within (k .books) all-days room h (most-c t ok) (most-l t ok) in
-          kept-line x (withPlant x t) done k plant-view (long-survey (o .flags) conc' flow' _ _ refl ec el)
-          (books-as (withPlant x t) books es (open-is _ _ _ _ _ _ _ _ _ _ _ _ refl refl refl refl ec el))
+          stands (withPlant x t) (o .flags) o' (e .weighed) r (e .put .tables ∙ sym (pick-false _ _ _ _ q refl)) (e .put .weighs ∙ sym (pick-false _ _ _ _ q refl)) (e .sums) refl
+          (λ z.
+          e .view ∙ ap₂ (λ (w : View) (n : ℕ). afterPlant w (t .hour) n) (k .view) z
+          ∙ view-plant x done t found (plant-lacking x t (k .books) (k .long) all-days hour room (most-c t ok) (most-l t ok) found h))
+          (plant-books x t (k .books) (k .long) all-days hour room (most-c t ok) (most-l t ok) found h)
 
-      pub kept-plant : Kept (Inside (withPlant x t) done) (r .view) (r .sums) after d
+      pub kept-plant : Kept (Inside (withPlant x t) done) (r .view) (r .sums) (after (o .flags) o') d
       unfolding flagAt
-      kept-plant = plant-by (hasSurvey (t .hour) (x .enforcement)) refl (sym (beats-within (o .flags) (t .hour) within) ∙ ap (λ (n : ℕ). eqb n 1) flag-is ∙ flag-bit (hasSurvey (t .hour) (x .enforcement)))
+      kept-plant =
+          plant-by (hasSurvey (t .hour) (x .enforcement)) refl
+          (sym (beats-within (o .flags) (t .hour) (omega (arith, k .books .period))) ∙ ap (λ (n : ℕ). eqb n 1) flag-is ∙ flag-bit (hasSurvey (t .hour) (x .enforcement)))
 
 -- ---- a batch
 pub kept-batch : (x : Line) (done : List Line) (v : View) (s : Sums) (b : Batch) (o : Open) (d : Done) (r : Taken)

@@ -6,11 +6,10 @@ use Prim.Native.Nat.{ℕ, suc, _+_, _-_, _*_, _<_, _≤_, max}
 use native.Mathlib.Numerals.{add-one}
 use native.Mathlib.Nat.{mul-le-mul}
 use native.Mathlib.Omega.{arith}
-use native.Mathlib.Decide.{decLt}
-use lib.ListN.{length, set, length-append}
+use native.Mathlib.Decide.{decLt, ℕ-discrete}
+use lib.ListN.{length, getD, set, length-append}
 use lib.Seq.{take-suc-set, getD-set-other}
-use lib.Dec.{eqb}
-use borrow.Author.Tests.{eq-eqb, ne-eqb, eqb-true, eqb-false}
+use borrow.Author.Tests.{eq-eqb, ne-eqb}
 use Rattle.law.specs.Numbers.{hoursOfDay, mostDays, mostHours, totalCells, mostSurveys, mostSulphur, mostAsh, mostFuel, mostConcentration, mostFlow, mostAmount}
 use Rattle.law.specs.Words.{pick, sumOf, table, largest}
 use Rattle.law.proofs.Tabled.{table-same, table-set, table-patch}
@@ -18,8 +17,10 @@ use Rattle.rules.specs.declared.Head.{Head}
 use Rattle.rules.specs.declared.Survey.{Survey}
 use Rattle.rules.specs.declared.Batch.{Batch}
 use Rattle.rules.specs.Records.{Day}
-use Rattle.rules.specs.Hours.{slotOf, runMasks, measuredMasks, runsAt}
-use Rattle.rules.specs.Lines.{Line, hasSurvey, besides, surveyed, surveys, fuel}
+use Rattle.rules.specs.Slots.{stopped}
+use Rattle.rules.specs.Hours.{slotOf, slotsOf, runMasks, measuredMasks, lacking}
+use Rattle.rules.specs.Lines.{Line, hasSurvey, besides, surveyed, putSurvey, putSurveys, daysAfter, surveys, fuel}
+use Rattle.rules.proofs.Surveyed.{days-length, days-runs, put-measured, put-lacking}
 use Rattle.rules.specs.Fill.{Values, zeroes}
 use Rattle.rules.specs.Grams.{valuesOf, amount, surveyValues, sulphurOf}
 use Rattle.rules.specs.Walk.{begun, withDay, withEnforcement, withPlant, withBatch}
@@ -29,11 +30,11 @@ use Rattle.walk.proofs.Cleared.{table-zero}
 use Rattle.walk.specs.declared.books.Sums.{Sums}
 use Rattle.line.specs.Put.{standing}
 use Rattle.walk.specs.Views.{openedSums, withSurvey, withFuel}
-use Rattle.walk.specs.Books.{putFrom, inCell, valuesAt, flagAt, Open, inOpen, CellsKept, SurveysKept, LineBooks, Long}
-use Rattle.walk.proofs.Hours.{begun-zero, past-zero, day-before, day-own, enforcement-other, plant-other, plant-second, enforcement-own, plant-own, measured-slot, unmeasured}
-use Rattle.walk.proofs.Masks.{states-day}
+use Rattle.walk.specs.Books.{putFrom, inCell, valuesAt, flagAt, Open, inOpen, MasksKept, CellsKept, SurveysKept, LineBooks, Long}
+use Rattle.walk.proofs.Hours.{begun-zero, past-zero, after-day, day-before, day-own, survey-own, survey-other}
+use Rattle.walk.proofs.Masks.{states-day, states-marked, masks-marked, found-kept}
+use Rattle.hours.specs.Marks.{withMeasured, foundBy}
 use Rattle.day.specs.Day.{hourState}
-use Rattle.hours.proofs.Laws.{pairIs}
 
 -- ---- a head: nothing is taken in yet
 begun-cells : (h : Head) (f : Values → ℕ) (most : ℕ) → f zeroes ≡ 0 → CellsKept (λ k. f (valuesAt (begun h) k)) most (table (λ k. 0) mostHours)
@@ -43,7 +44,7 @@ begun-cells h f most z =
 
 pub begun-books : (h : Head) (runs measured states : List ℕ) → h .days ≤ mostDays → (1 ≤ h .pollutant) × (h .pollutant ≤ totalCells)
     → LineBooks (begun h) (openedSums h) (inOpen runs measured states (table (λ k. 0) mostHours) (table (λ k. 0) mostHours) (table (λ k. 0) mostHours))
-unfolding begun table runMasks measuredMasks surveys surveyed besides sulphurOf ashOf sumOf largest flagAt hasSurvey pick zeroes
+unfolding begun table runMasks measuredMasks surveys surveyed besides daysAfter putSurveys sulphurOf ashOf sumOf largest flagAt hasSurvey pick zeroes
 begun-books h runs measured states l p =
     record {
       masks = record { runsKept = refl; measuredKept = refl; statesKept = refl };
@@ -108,7 +109,9 @@ module _ (x : Line) (d : Day) {s : Sums} {o : Open} (k : LineBooks x s o) (more 
         masks =
             record {
               runsKept = take-suc-set (o .runs) n (d .masks .run) (omega (arith, k .period, long .runs)) ∙ ap (λ (t : List ℕ). t ++ (d .masks .run ∷ [])) (k .masks .runsKept);
-              measuredKept = take-suc-set (o .measured) n (d .masks .measured) (omega (arith, k .period, long .measured)) ∙ ap (λ (t : List ℕ). t ++ (d .masks .measured ∷ [])) (k .masks .measuredKept);
+              measuredKept =
+                  take-suc-set (o .measured) n (d .masks .measured) (omega (arith, k .period, long .measured)) ∙ ap (λ (t : List ℕ). t ++ (d .masks .measured ∷ [])) (k .masks .measuredKept)
+                  ∙ ap measuredMasks (sym (after-day x d (k .early more .0) (k .early more .1)));
               statesKept =
                   states-day (o .runs) (o .measured) n (d .masks .run) (d .masks .measured) (omega (arith, k .period, long .runs)) (omega (arith, k .period, long .measured))
                   (o .states) (omega (arith, k .period, long .states)) (k .masks .statesKept);
@@ -134,18 +137,9 @@ planted-second : (x : Line) (s : Survey) → hasSurvey (s .hour) (x .enforcement
 unfolding surveyed withPlant besides pick
 planted-second x s t = rw t
 
-planted : (x : Line) (s : Survey) → hasSurvey (s .hour) (x .enforcement) ≡ false → surveyed (withPlant x s) ≡ x .enforcement ++ (s ∷ besides (x .enforcement) (x .plant))
+planted : (x : Line) (s : Survey) → hasSurvey (s .hour) (x .enforcement) ≡ false → surveyed (withPlant x s) ≡ s ∷ surveyed x
 unfolding surveyed withPlant besides pick
 planted x s t = rw t
-
-sum-middle : {A : Type 0} (f : A → ℕ) (xs ys : List A) (y : A) → sumOf f (xs ++ (y ∷ ys)) ≡ f y + sumOf f (xs ++ ys)
-unfolding sumOf
-sum-middle f [] ys y = refl
-sum-middle f (x ∷ xs) ys y = omega (arith, sum-middle f xs ys y)
-
-length-middle : {A : Type 0} (xs ys : List A) (y : A) → length (xs ++ (y ∷ ys)) ≡ suc (length (xs ++ ys))
-length-middle [] ys y = refl
-length-middle (x ∷ xs) ys y = ap suc (length-middle xs ys y)
 
 one-most : (b : Bool) (ss : List Survey) (s : Survey) (n : ℕ) → length ss ≤ n → length (pick b ss (s ∷ ss)) ≤ suc n
 unfolding pick
@@ -161,53 +155,19 @@ pub surveyed-most : (x : Line) → length (surveyed x) ≤ surveys x
 unfolding surveyed surveys
 surveyed-most x = simp length-append (omega (arith, besides-most (x .enforcement) (x .plant)))
 
--- ---- an hour replaced: the line y is x with a survey more, whichever kind
-module _ (x y : Line) (s : Survey)
-    (other : (h : ℕ) → (h ≡ s .hour → ⊥) → valuesAt y h ≡ valuesAt x h)
-    (own : runsAt (measuredMasks (x .days)) (s .hour) ≡ true → valuesAt y (s .hour) ≡ valuesOf (s .pair))
-    (none : runsAt (measuredMasks (x .days)) (s .hour) ≡ false → valuesAt y (s .hour) ≡ valuesAt x (s .hour))
-    (within : s .hour < mostHours) (f : Values → ℕ) (most : ℕ) (limit : f (valuesOf (s .pair)) ≤ most)
-  where
-    by-hour : (h : ℕ) (b : Bool) → eqb h (s .hour) ≡ b → runsAt (measuredMasks (x .days)) (s .hour) ≡ false → f (valuesAt y h) ≡ f (valuesAt x h)
-    by-hour h true q t = let z = eqb-true h (s .hour) q in ap (λ (k : ℕ). f (valuesAt y k)) z ∙ ap f (none t) ∙ ap (λ (k : ℕ). f (valuesAt x k)) (sym z)
-    by-hour h false q t = ap f (other h (eqb-false h (s .hour) q))
+-- ---- a line with other surveys, after its last day: its fuel and its period are as they were
+abbrev withOther : Line → List Survey → List Survey → Line
+withOther x es ps = record { head = x .head; days = x .days; enforcement = es; plant = ps; batches = x .batches }
 
-    own-within : (h : ℕ) (b : Bool) → eqb h (s .hour) ≡ b → runsAt (measuredMasks (x .days)) (s .hour) ≡ true → f (valuesAt x h) ≤ most → f (valuesAt y h) ≤ most
-    own-within h true q t l = omega (arith, ap (λ (k : ℕ). f (valuesAt y k)) (eqb-true h (s .hour) q), ap f (own t), limit)
-    own-within h false q t l = omega (arith, ap f (other h (eqb-false h (s .hour) q)))
-
-    by-mask : (b : Bool) → runsAt (measuredMasks (x .days)) (s .hour) ≡ b → (cells : List ℕ) → CellsKept (λ h. f (valuesAt x h)) most cells
-        → CellsKept (λ h. f (valuesAt y h)) most (pick b (set cells (s .hour) (f (valuesOf (s .pair)))) cells)
-    unfolding pick
-    by-mask true t cells c =
-        record {
-          hold =
-              ap (λ (l : List ℕ). set l (s .hour) (f (valuesOf (s .pair)))) (c .hold)
-              ∙ table-set (λ h. f (valuesAt x h)) (λ h. f (valuesAt y h)) mostHours (s .hour) (f (valuesOf (s .pair))) 0 within (ap f (own t)) (λ h n. ap f (other h n));
-          within = λ h. own-within h (eqb h (s .hour)) refl t (c .within h);
-        }
-    by-mask false t cells c =
-        record {
-          hold = c .hold ∙ table-same (λ h. f (valuesAt x h)) (λ h. f (valuesAt y h)) mostHours (λ h l. sym (by-hour h (eqb h (s .hour)) refl t));
-          within = λ h. omega (arith, by-hour h (eqb h (s .hour)) refl t, c .within h);
-        }
-
-    survey-cells : (cells : List ℕ) → CellsKept (λ h. f (valuesAt x h)) most cells
-        → CellsKept (λ h. f (valuesAt y h)) most (pick (runsAt (measuredMasks (x .days)) (s .hour)) (set cells (s .hour) (f (valuesOf (s .pair)))) cells)
-    survey-cells = by-mask (runsAt (measuredMasks (x .days)) (s .hour)) refl
-
--- ---- a line with other surveys, after its last day: its masks, its fuel and its period are as they were
-abbrev withSurveys : Line → List Survey → List Survey → Line
-withSurveys x es ps = record { head = x .head; days = x .days; enforcement = es; plant = ps; batches = x .batches }
-
-survey-books : (x : Line) (es ps : List Survey) (t' : Sums) {t : Sums} {o : Open} {flags' conc' flow' : List ℕ} → LineBooks x t o
+survey-books : (x : Line) (es ps : List Survey) (t' : Sums) {t : Sums} {o : Open} (o' : Open) → LineBooks x t o
     → length (x .days) ≡ x .head .days → length es + length ps ≤ mostSurveys → t' .sulphur ≡ t .sulphur → t' .ash ≡ t .ash → t' .used ≡ t .used
-    → CellsKept (λ h. valuesAt (withSurveys x es ps) h .c) mostConcentration conc' → CellsKept (λ h. valuesAt (withSurveys x es ps) h .l) mostFlow flow'
-    → SurveysKept (x .head .days) es (surveyed (withSurveys x es ps)) (t' .surveyed) (t' .weight) flags' → LineBooks (withSurveys x es ps) t' (inOpen (o .runs) (o .measured) (o .states) flags' conc' flow')
+    → MasksKept (withOther x es ps) (o' .runs) (o' .measured) (o' .states)
+    → CellsKept (λ h. valuesAt (withOther x es ps) h .c) mostConcentration (o' .concentrations) → CellsKept (λ h. valuesAt (withOther x es ps) h .l) mostFlow (o' .flows)
+    → SurveysKept (x .head .days) es (surveyed (withOther x es ps)) (t' .surveyed) (t' .weight) (o' .flags) → LineBooks (withOther x es ps) t' o'
 unfolding surveys
-survey-books x es ps t' k all-days few s a u c l y =
+survey-books x es ps t' o' k all-days few s a u m c l y =
     record {
-      masks = k .masks;
+      masks = m;
       concentrations = c;
       flows = l;
       surveys = y;
@@ -220,18 +180,85 @@ survey-books x es ps t' k all-days few s a u c l y =
       few = few;
     }
 
--- ---- an enforcement survey
-module _ (x : Line) (s : Survey) (within : s .hour < mostHours) where
-  abbrev e-line : Line
-  e-line = withEnforcement x s
+-- ---- a survey that stands, of either kind: the line y has it beside those of x
+module _ (x : Line) (es ps : List Survey) (s : Survey) where
+  abbrev y : Line
+  y = withOther x es ps
 
-  e-own : runsAt (measuredMasks (x .days)) (s .hour) ≡ true → valuesAt e-line (s .hour) ≡ valuesOf (s .pair)
-  e-own t = enforcement-own x s (s .hour) (pairIs (x .days) (s .hour)) (measured-slot (x .days) (s .hour) t) refl
+  module _ (more : surveyed y ≡ s ∷ surveyed x) where
+    pub days-stood : daysAfter y ≡ putSurvey s (daysAfter x)
+    unfolding daysAfter putSurveys
+    days-stood = ap (λ (ss : List Survey). putSurveys ss (x .days)) more
 
-  e-none : runsAt (measuredMasks (x .days)) (s .hour) ≡ false → valuesAt e-line (s .hour) ≡ valuesAt x (s .hour)
-  unfolding withEnforcement
-  e-none t = unmeasured (withEnforcement x s) (s .hour) t ∙ sym (unmeasured x (s .hour) t)
+    module _ {t : Sums} {o : Open} (k : LineBooks x t o) (long : Long o) (all-days : length (x .days) ≡ x .head .days) (hour : s .hour < hoursOfDay * x .head .days) where
+      in-days : s .hour < hoursOfDay * length (x .days)
+      in-days = omega (arith, all-days)
 
+      within : s .hour < mostHours
+      within = omega (arith, k .period)
+
+      -- its hour's cell holds its value
+      stood-cells : (f : Values → ℕ) (most : ℕ) (cells : List ℕ) → f (valuesOf (s .pair)) ≤ most → CellsKept (λ h. f (valuesAt x h)) most cells
+          → CellsKept (λ h. f (valuesAt y h)) most (set cells (s .hour) (f (valuesOf (s .pair))))
+      stood-cells f most cells limit c =
+          record {
+            hold =
+                ap (λ (l : List ℕ). set l (s .hour) (f (valuesOf (s .pair)))) (c .hold)
+                ∙ table-set (λ h. f (valuesAt x h)) (λ h. f (valuesAt y h)) mostHours (s .hour) (f (valuesOf (s .pair))) 0 within (ap f (survey-own x y s days-stood in-days))
+                (λ h l n. ap f (survey-other x y s days-stood in-days h n));
+            within = λ h. by h (ℕ-discrete h (s .hour));
+          }
+        where
+          by : (h : ℕ) → Dec (h ≡ s .hour) → f (valuesAt y h) ≤ most
+          by h (yes e) = omega (arith, ap (λ (i : ℕ). f (valuesAt y i)) e, ap f (survey-own x y s days-stood in-days), limit)
+          by h (no n) = omega (arith, ap f (survey-other x y s days-stood in-days h n), c .within h)
+
+      -- its hour is marked in the masks and the states
+      stood-masks : MasksKept y (o .runs) (withMeasured (s .hour) (o .measured)) (set (o .states) (s .hour) 2)
+      stood-masks =
+          let few : length (x .days) ≤ length (o .measured) = omega (arith, k .period, all-days, long .measured) in
+          record {
+            runsKept = k .masks .runsKept;
+            measuredKept =
+                masks-marked (o .runs) (o .measured) (o .states) (length (x .days)) (s .hour) in-days few (measuredMasks (daysAfter x)) (k .masks .measuredKept)
+                ∙ sym (ap measuredMasks days-stood ∙ put-measured s (daysAfter x) (let l : s .hour < hoursOfDay * length (daysAfter x) = omega (arith, in-days, days-length x) in l));
+            statesKept = states-marked (o .runs) (o .measured) (o .states) (length (x .days)) (s .hour) in-days few (k .masks .statesKept);
+          }
+
+      -- one survey more, by its count and its amount
+      stood-surveys : (flags' : List ℕ) → flags' ≡ table (flagAt es) mostHours → ((h : ℕ) → hoursOfDay * x .head .days ≤ h → getD flags' h 0 ≡ 0)
+          → valuesOf (s .pair) .c ≤ mostConcentration → valuesOf (s .pair) .l ≤ mostFlow
+          → SurveysKept (x .head .days) es (surveyed y) (t .surveyed + 1) (valuesOf (s .pair) .c * valuesOf (s .pair) .l + t .weight) flags'
+      unfolding sumOf amount surveyValues
+      stood-surveys flags' flagged past cm lm =
+          let y = k .surveys in
+          record {
+            flagged = flagged;
+            past = past;
+            counted = ap (λ (m : ℕ). m + 1) (y .counted) ∙ add-one (length (surveyed x)) ∙ sym (ap length more);
+            weighed = ap (λ (m : ℕ). valuesOf (s .pair) .c * valuesOf (s .pair) .l + m) (y .weighed) ∙ sym (ap (sumOf (λ u. amount (surveyValues u))) more);
+            most = subst (λ (l : List Survey). sumOf (λ u. amount (surveyValues u)) l ≤ length l * mostAmount) (sym more) (omega (arith, y .most, mul-le-mul cm lm));
+          }
+
+      pub stood-books : (flags' : List ℕ) (found : ℕ) → flags' ≡ table (flagAt es) mostHours → ((h : ℕ) → hoursOfDay * x .head .days ≤ h → getD flags' h 0 ≡ 0)
+          → length es + length ps ≤ mostSurveys → valuesOf (s .pair) .c ≤ mostConcentration → valuesOf (s .pair) .l ≤ mostFlow
+          → LineBooks y (withSurvey t (standing (valuesOf (s .pair) .c) (valuesOf (s .pair) .l) found))
+          (inOpen (o .runs) (withMeasured (s .hour) (o .measured)) (set (o .states) (s .hour) 2) flags' (set (o .concentrations) (s .hour) (valuesOf (s .pair) .c)) (set (o .flows) (s .hour) (valuesOf (s .pair) .l)))
+      stood-books flags' found flagged past few cm lm =
+          survey-books x es ps _ _ k all-days few refl refl refl stood-masks (stood-cells (λ v. v .c) mostConcentration (o .concentrations) cm (k .concentrations))
+          (stood-cells (λ v. v .l) mostFlow (o .flows) lm (k .flows)) (stood-surveys flags' flagged past cm lm)
+
+      -- the missing hours that it finds
+      pub found-is : foundBy (s .hour) (o .runs) (o .measured) ≡ foundBy (s .hour) (runMasks (daysAfter x)) (measuredMasks (daysAfter x))
+      found-is =
+          found-kept (length (x .days)) (s .hour) (o .runs) (o .measured) (runMasks (daysAfter x)) (measuredMasks (daysAfter x)) (k .masks .runsKept ∙ sym (days-runs x)) (k .masks .measuredKept) in-days
+
+      pub lacking-stood : lacking (daysAfter y) ≡ lacking (daysAfter x) - foundBy (s .hour) (o .runs) (o .measured)
+      lacking-stood =
+          ap lacking days-stood ∙ put-lacking s (daysAfter x) (omega (arith, in-days, days-length x)) ∙ ap (λ (n : ℕ). lacking (daysAfter x) - n) (sym found-is)
+
+-- ---- an enforcement survey: its flag is set
+module _ (x : Line) (s : Survey) where
   e-flag : (h : ℕ) → (h ≡ s .hour → ⊥) → flagAt (s ∷ x .enforcement) h ≡ flagAt (x .enforcement) h
   unfolding flagAt hasSurvey
   e-flag h n = rw (ne-eqb h (s .hour) n)
@@ -240,110 +267,71 @@ module _ (x : Line) (s : Survey) (within : s .hour < mostHours) where
   unfolding flagAt hasSurvey pick
   e-flag-own = rw (eq-eqb (s .hour) (s .hour) refl)
 
-  module _ {t : Sums} {o : Open} (k : LineBooks x t o)
-      (all-days : length (x .days) ≡ x .head .days) (no-plant : x .plant ≡ []) (room : surveys x < mostSurveys)
-      (cm : valuesOf (s .pair) .c ≤ mostConcentration) (lm : valuesOf (s .pair) .l ≤ mostFlow)
+  module _ {t : Sums} {o : Open} (k : LineBooks x t o) (long : Long o) (all-days : length (x .days) ≡ x .head .days) (hour : s .hour < hoursOfDay * x .head .days) (room : surveys x < mostSurveys)
+      (cm : valuesOf (s .pair) .c ≤ mostConcentration) (lm : valuesOf (s .pair) .l ≤ mostFlow) (found : ℕ)
     where
-      e-surveys : s .hour < hoursOfDay * x .head .days
-          → SurveysKept (x .head .days) (s ∷ x .enforcement) (surveyed (withEnforcement x s)) (t .surveyed + 1) (valuesOf (s .pair) .c * valuesOf (s .pair) .l + t .weight) (set (o .flags) (s .hour) 1)
-      unfolding sumOf amount surveyValues
-      e-surveys early =
-          let y = k .surveys in
-          let e = enforced x s no-plant in
-          record {
-            flagged = ap (λ (l : List ℕ). set l (s .hour) 1) (y .flagged) ∙ table-set (flagAt (x .enforcement)) (flagAt (s ∷ x .enforcement)) mostHours (s .hour) 1 0 within e-flag-own e-flag;
-            past = λ h m. getD-set-other (o .flags) (s .hour) h 1 0 (λ q. absurd (omega (arith, q, m, early))) ∙ y .past h m;
-            counted = ap (λ (m : ℕ). m + 1) (y .counted) ∙ add-one (length (surveyed x)) ∙ sym (ap length e);
-            weighed = ap (λ (m : ℕ). valuesOf (s .pair) .c * valuesOf (s .pair) .l + m) (y .weighed) ∙ sym (ap (sumOf (λ u. amount (surveyValues u))) e);
-            most = subst (λ (l : List Survey). sumOf (λ u. amount (surveyValues u)) l ≤ length l * mostAmount) (sym e) (omega (arith, y .most, mul-le-mul cm lm));
-          }
+      abbrev marked : List ℕ → Open
+      marked flags' =
+          inOpen (o .runs) (withMeasured (s .hour) (o .measured)) (set (o .states) (s .hour) 2) flags' (set (o .concentrations) (s .hour) (valuesOf (s .pair) .c)) (set (o .flows) (s .hour) (valuesOf (s .pair) .l))
 
-      pub enforcement-books : s .hour < hoursOfDay * x .head .days
-          → LineBooks (withEnforcement x s) (withSurvey t (standing (valuesOf (s .pair) .c) (valuesOf (s .pair) .l)))
-          (inOpen (o .runs) (o .measured) (o .states) (set (o .flags) (s .hour) 1)
-          (pick (runsAt (measuredMasks (x .days)) (s .hour)) (set (o .concentrations) (s .hour) (valuesOf (s .pair) .c)) (o .concentrations))
-          (pick (runsAt (measuredMasks (x .days)) (s .hour)) (set (o .flows) (s .hour) (valuesOf (s .pair) .l)) (o .flows)))
+      abbrev counted : Sums
+      counted = withSurvey t (standing (valuesOf (s .pair) .c) (valuesOf (s .pair) .l) found)
+
+      pub enforcement-books : x .plant ≡ [] → LineBooks (withEnforcement x s) counted (marked (set (o .flags) (s .hour) 1))
       unfolding withEnforcement surveys
-      enforcement-books early =
-          survey-books x (s ∷ x .enforcement) (x .plant) _ k all-days (omega arith) refl refl refl
-          (survey-cells x e-line s (enforcement-other x s) e-own e-none within (λ v. v .c) mostConcentration cm (o .concentrations) (k .concentrations))
-          (survey-cells x e-line s (enforcement-other x s) e-own e-none within (λ v. v .l) mostFlow lm (o .flows) (k .flows))
-          (e-surveys early)
+      enforcement-books none =
+          stood-books x (s ∷ x .enforcement) (x .plant) s (enforced x s none) k long all-days hour (set (o .flags) (s .hour) 1) found
+          (ap (λ (l : List ℕ). set l (s .hour) 1) (k .surveys .flagged)
+          ∙ table-set (flagAt (x .enforcement)) (flagAt (s ∷ x .enforcement)) mostHours (s .hour) 1 0 (omega (arith, k .period)) e-flag-own (λ h l n. e-flag h n))
+          (λ h m. getD-set-other (o .flags) (s .hour) h 1 0 (λ q. absurd (omega (arith, q, m, hour))) ∙ k .surveys .past h m)
+          (omega arith) cm lm
 
--- ---- a plant survey where no enforcement survey stands, and one that is beaten
-module _ (x : Line) (s : Survey) (within : s .hour < mostHours) where
-  abbrev p-line : Line
-  p-line = withPlant x s
+      pub enforcement-lacking : x .plant ≡ [] → lacking (daysAfter (withEnforcement x s)) ≡ lacking (daysAfter x) - foundBy (s .hour) (o .runs) (o .measured)
+      unfolding withEnforcement
+      enforcement-lacking none = lacking-stood x (s ∷ x .enforcement) (x .plant) s (enforced x s none) k long all-days hour
 
-  module _ (free : hasSurvey (s .hour) (x .enforcement) ≡ false) where
-    p-own : runsAt (measuredMasks (x .days)) (s .hour) ≡ true → valuesAt p-line (s .hour) ≡ valuesOf (s .pair)
-    p-own t = plant-own x s (s .hour) (pairIs (x .days) (s .hour)) (measured-slot (x .days) (s .hour) t) refl free
+      -- ---- a plant survey where no enforcement survey stands
+      pub plant-books : hasSurvey (s .hour) (x .enforcement) ≡ false → LineBooks (withPlant x s) counted (marked (o .flags))
+      unfolding withPlant surveys
+      plant-books free =
+          stood-books x (x .enforcement) (s ∷ x .plant) s (planted x s free) k long all-days hour (o .flags) found (k .surveys .flagged) (k .surveys .past) (omega arith) cm lm
 
-    p-none : runsAt (measuredMasks (x .days)) (s .hour) ≡ false → valuesAt p-line (s .hour) ≡ valuesAt x (s .hour)
-    unfolding withPlant
-    p-none t = unmeasured (withPlant x s) (s .hour) t ∙ sym (unmeasured x (s .hour) t)
+      pub plant-lacking : hasSurvey (s .hour) (x .enforcement) ≡ false → lacking (daysAfter (withPlant x s)) ≡ lacking (daysAfter x) - foundBy (s .hour) (o .runs) (o .measured)
+      unfolding withPlant
+      plant-lacking free = lacking-stood x (x .enforcement) (s ∷ x .plant) s (planted x s free) k long all-days hour
 
-  beaten-all : hasSurvey (s .hour) (x .enforcement) ≡ true → (h : ℕ) → valuesAt p-line h ≡ valuesAt x h
-  beaten-all t h = go (eqb h (s .hour)) refl
-    where
-      go : (b : Bool) → eqb h (s .hour) ≡ b → valuesAt p-line h ≡ valuesAt x h
-      go true q = plant-second x s h (subst (λ (k : ℕ). hasSurvey k (x .enforcement) ≡ true) (sym (eqb-true h (s .hour) q)) t)
-      go false q = plant-other x s h (eqb-false h (s .hour) q)
+-- ---- a plant survey that is beaten changes nothing
+module _ (x : Line) (s : Survey) (beaten : hasSurvey (s .hour) (x .enforcement) ≡ true) where
+  pub days-beaten : daysAfter (withPlant x s) ≡ daysAfter x
+  unfolding daysAfter withPlant
+  days-beaten = ap (λ (ss : List Survey). putSurveys ss (x .days)) (planted-second x s beaten)
 
-  beaten-cells : hasSurvey (s .hour) (x .enforcement) ≡ true → (f : Values → ℕ) (most : ℕ) (cells : List ℕ) → CellsKept (λ h. f (valuesAt x h)) most cells → CellsKept (λ h. f (valuesAt p-line h)) most cells
-  beaten-cells t f most cells c =
+  beaten-value : (h : ℕ) → valuesAt (withPlant x s) h ≡ valuesAt x h
+  unfolding valuesAt
+  beaten-value h = ap (λ (ds : List Day). inCell (getD (slotsOf ds) h stopped)) days-beaten
+
+  beaten-cells : (f : Values → ℕ) (most : ℕ) (cells : List ℕ) → CellsKept (λ h. f (valuesAt x h)) most cells → CellsKept (λ h. f (valuesAt (withPlant x s) h)) most cells
+  beaten-cells f most cells c =
       record {
-        hold = c .hold ∙ table-same (λ h. f (valuesAt x h)) (λ h. f (valuesAt p-line h)) mostHours (λ h l. sym (ap f (beaten-all t h)));
-        within = λ h. omega (arith, ap f (beaten-all t h), c .within h);
+        hold = c .hold ∙ table-same (λ h. f (valuesAt x h)) (λ h. f (valuesAt (withPlant x s) h)) mostHours (λ h l. sym (ap f (beaten-value h)));
+        within = λ h. omega (arith, ap f (beaten-value h), c .within h);
       }
 
-  module _ {t : Sums} {o : Open} (k : LineBooks x t o) (all-days : length (x .days) ≡ x .head .days) (room : surveys x < mostSurveys) where
-    pub beaten-books : hasSurvey (s .hour) (x .enforcement) ≡ true → LineBooks (withPlant x s) t o
-    unfolding withPlant surveys
-    beaten-books beaten =
-        survey-books x (x .enforcement) (s ∷ x .plant) t k all-days (omega arith) refl refl refl
-        (beaten-cells beaten (λ v. v .c) mostConcentration (o .concentrations) (k .concentrations)) (beaten-cells beaten (λ v. v .l) mostFlow (o .flows) (k .flows))
-        (subst (λ (l : List Survey). SurveysKept (x .head .days) (x .enforcement) l (t .surveyed) (t .weight) (o .flags)) (sym (planted-second x s beaten)) (k .surveys))
-
-    module _ (free : hasSurvey (s .hour) (x .enforcement) ≡ false) (cm : valuesOf (s .pair) .c ≤ mostConcentration) (lm : valuesOf (s .pair) .l ≤ mostFlow) where
-      planted-length : length (surveyed (withPlant x s)) ≡ suc (length (surveyed x))
-      unfolding surveyed
-      planted-length = ap length (planted x s free) ∙ length-middle (x .enforcement) (besides (x .enforcement) (x .plant)) s
-
-      planted-sum : sumOf (λ u. amount (surveyValues u)) (surveyed (withPlant x s)) ≡ amount (surveyValues s) + sumOf (λ u. amount (surveyValues u)) (surveyed x)
-      unfolding surveyed
-      planted-sum = ap (sumOf (λ u. amount (surveyValues u))) (planted x s free) ∙ sum-middle (λ u. amount (surveyValues u)) (x .enforcement) (besides (x .enforcement) (x .plant)) s
-
-      p-surveys : SurveysKept (x .head .days) (x .enforcement) (surveyed (withPlant x s)) (t .surveyed + 1) (valuesOf (s .pair) .c * valuesOf (s .pair) .l + t .weight) (o .flags)
-      unfolding amount surveyValues
-      p-surveys =
-          let y = k .surveys in
-          record {
-            flagged = y .flagged;
-            past = y .past;
-            counted = ap (λ (m : ℕ). m + 1) (y .counted) ∙ add-one (length (surveyed x)) ∙ sym planted-length;
-            weighed = ap (λ (m : ℕ). valuesOf (s .pair) .c * valuesOf (s .pair) .l + m) (y .weighed) ∙ sym planted-sum;
-            most = omega (arith, planted-sum, planted-length, y .most, mul-le-mul cm lm);
-          }
-
-      pub plant-books : LineBooks (withPlant x s) (withSurvey t (standing (valuesOf (s .pair) .c) (valuesOf (s .pair) .l)))
-          (inOpen (o .runs) (o .measured) (o .states) (o .flags)
-          (pick (runsAt (measuredMasks (x .days)) (s .hour)) (set (o .concentrations) (s .hour) (valuesOf (s .pair) .c)) (o .concentrations))
-          (pick (runsAt (measuredMasks (x .days)) (s .hour)) (set (o .flows) (s .hour) (valuesOf (s .pair) .l)) (o .flows)))
-      unfolding withPlant surveys
-      plant-books =
-          survey-books x (x .enforcement) (s ∷ x .plant) _ k all-days (omega arith) refl refl refl
-          (survey-cells x p-line s (plant-other x s) (p-own free) (p-none free) within (λ v. v .c) mostConcentration cm (o .concentrations) (k .concentrations))
-          (survey-cells x p-line s (plant-other x s) (p-own free) (p-none free) within (λ v. v .l) mostFlow lm (o .flows) (k .flows))
-          p-surveys
+  pub beaten-books : {t : Sums} {o : Open} → LineBooks x t o → length (x .days) ≡ x .head .days → surveys x < mostSurveys → LineBooks (withPlant x s) t o
+  unfolding withPlant surveys
+  beaten-books {t} {o} k all-days room =
+      survey-books x (x .enforcement) (s ∷ x .plant) t o k all-days (omega arith) refl refl refl
+      (record { runsKept = k .masks .runsKept; measuredKept = k .masks .measuredKept ∙ sym (ap measuredMasks days-beaten); statesKept = k .masks .statesKept })
+      (beaten-cells (λ v. v .c) mostConcentration (o .concentrations) (k .concentrations)) (beaten-cells (λ v. v .l) mostFlow (o .flows) (k .flows))
+      (subst (λ (l : List Survey). SurveysKept (x .head .days) (x .enforcement) l (t .surveyed) (t .weight) (o .flags)) (sym (planted-second x s beaten)) (k .surveys))
 
 -- ---- a batch: no hour and no survey changes
 pub batch-books : (x : Line) (f : Batch) {t : Sums} {o : Open} → LineBooks x t o
     → f .kg + fuel (x .batches) ≤ mostFuel → f .sulphur ≤ mostSulphur → f .ash ≤ mostAsh → LineBooks (withBatch x f) (withFuel t f) o
-unfolding withBatch valuesAt surveys surveyed sulphurOf ashOf sumOf largest
+unfolding withBatch valuesAt surveys surveyed daysAfter sulphurOf ashOf sumOf largest
 batch-books x f k most sm am =
     record {
-      masks = k .masks;
+      masks = record { runsKept = k .masks .runsKept; measuredKept = k .masks .measuredKept; statesKept = k .masks .statesKept };
       concentrations = k .concentrations;
       flows = k .flows;
       surveys = k .surveys;

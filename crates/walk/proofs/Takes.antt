@@ -16,8 +16,10 @@ use Rattle.rules.specs.declared.View.{View}
 use Rattle.rules.specs.declared.Coefficients.{Coefficients}
 use Rattle.rules.specs.declared.Coefficients.the-variants.{Balance, Oxides, Dust, NoEntry}
 use Rattle.rules.specs.Grams.{sulphurOf}
-use Rattle.rules.specs.Hours.{runMasks, measuredMasks, runsAt, firstMissing, running, lacking}
-use Rattle.rules.specs.Lines.{Line, surveys, fuel}
+use Rattle.rules.specs.Hours.{runMasks, measuredMasks, firstMissing, running, lacking}
+use Rattle.rules.specs.Lines.{Line, daysAfter, surveys, fuel}
+use Rattle.rules.proofs.Surveyed.{days-length, days-runs, days-no-more, found-most}
+use Rattle.line.specs.Put.{Tables, inTables}
 use Rattle.rules.specs.Method.{isAutomatic, isManual, methodOf, method}
 use Rattle.rules.specs.Tables.{coefficientsOf}
 use lib.Dec.{eqb}
@@ -36,7 +38,7 @@ use Rattle.walk.specs.Taking.{HeadTaken, DayReady, DayTaken, SurveyReady
 use Rattle.walk.specs.Walking.{Ready, Took}
 use Rattle.walk.proofs.Standing.{kept-head, kept-day, kept-enforcement, kept-plant, kept-batch}
 use Rattle.walk.proofs.Ending.{method-is, cells-most, kept-end}
-use Rattle.walk.proofs.Masks.{runs-kept, states-kept, first-kept}
+use Rattle.walk.proofs.Masks.{states-kept, first-kept, found-kept}
 use Rattle.walk.proofs.Steps.{surveyed-most}
 use Rattle.rules.proofs.Method.{manual-surveyed}
 use Rattle.walk.specs.Closing.{gramsIn}
@@ -82,7 +84,7 @@ above-two (suc (suc (suc m))) l n k = omega arith
 method-least : (x : Line) → 1 ≤ method x
 unfolding method methodOf
 method-least x =
-    pick-case (λ (m : ℕ). 1 ≤ m) (isAutomatic (running (x .days)) (lacking (x .days))) 1 _ (λ _. omega arith)
+    pick-case (λ (m : ℕ). 1 ≤ m) (isAutomatic (running (x .days)) (lacking (daysAfter x))) 1 _ (λ _. omega arith)
     (λ _. pick-case (λ (m : ℕ). 1 ≤ m) (isManual (x .head) (surveys x)) 2 _ (λ _. omega arith) (λ _. pick-case (λ (m : ℕ). 1 ≤ m) (eqb (x .head .pollutant) 1) 3 4 (λ _. omega arith) (λ _. omega arith)))
 
 surveys-are : (x : Line) → surveys x ≡ length (x .enforcement) + length (x .plant)
@@ -94,14 +96,14 @@ module _ (h : Head) (batches : List Batch) (i : InRange batches) where
   abbrev figureNow : OnPaper
   figureNow = fuelFigure h (fuel batches) (sulphurOf batches) (ashOf batches)
 
-  found-most : (coefficientsOf h ≡ NoEntry → ⊥) → gramsIn figureNow ≤ mostGrams
-  found-most n = subst (λ (f : OnPaper). gramsIn f ≤ mostGrams) (sym (line-figure h batches i n)) (omega (arith, grams-fit h batches i))
+  entry-most : (coefficientsOf h ≡ NoEntry → ⊥) → gramsIn figureNow ≤ mostGrams
+  entry-most n = subst (λ (f : OnPaper). gramsIn f ≤ mostGrams) (sym (line-figure h batches i n)) (omega (arith, grams-fit h batches i))
 
   fuel-by : (c : Coefficients) → coefficientsOf h ≡ c → gramsIn figureNow ≤ mostGrams
   fuel-by NoEntry e = subst (λ (f : OnPaper). gramsIn f ≤ mostGrams) (sym (line-wanting h batches i e)) (omega arith)
-  fuel-by (Balance q k) e = found-most (λ z. let t : _≡_ {A = ℕ} 0 1 = cc in omega arith)
-  fuel-by (Oxides q) e = found-most (λ z. let t : _≡_ {A = ℕ} 0 1 = cc in omega arith)
-  fuel-by (Dust q k) e = found-most (λ z. let t : _≡_ {A = ℕ} 0 1 = cc in omega arith)
+  fuel-by (Balance q k) e = entry-most (λ z. let t : _≡_ {A = ℕ} 0 1 = cc in omega arith)
+  fuel-by (Oxides q) e = entry-most (λ z. let t : _≡_ {A = ℕ} 0 1 = cc in omega arith)
+  fuel-by (Dust q k) e = entry-most (λ z. let t : _≡_ {A = ℕ} 0 1 = cc in omega arith)
 
   fuel-most : gramsIn figureNow ≤ mostGrams
   fuel-most = fuel-by (coefficientsOf h) refl
@@ -109,6 +111,10 @@ module _ (h : Head) (batches : List Batch) (i : InRange batches) where
 days-all : (x : Line) (done : List Line) {v : View} → v ≡ viewOf (Inside x done) → v .days ≡ v .head .days → length (x .days) ≡ x .head .days
 unfolding viewOf
 days-all x done e d = sym (ap (λ (w : View). w .days) e) ∙ d ∙ ap (λ (w : View). w .head .days) e
+
+-- the tables of the open line that a survey moves
+abbrev tablesIn : Open → Tables
+tablesIn o = inTables (o .measured) (o .states) (o .concentrations) (o .flows)
 
 module _ (bytes : List ℕ) (v : View) (s : Sums) (o : Open) (d : Done) where
   -- the record as it is judged
@@ -175,37 +181,33 @@ module _ (bytes : List ℕ) (v : View) (s : Sums) (o : Open) (d : Done) where
         pair = ok .pair;
       }
 
-  -- whether a survey's hour is measured, by the masks that are kept
-  measured-here : (x : Line) (done : List Line) (t : Survey) → Kept (Inside x done) v s o d → SurveyFacts x t → runsAt (o .measured) (t .hour) ≡ runsAt (measuredMasks (x .days)) (t .hour)
-  measured-here x done t k f = runs-kept (length (x .days)) (o .measured) (measuredMasks (x .days)) (t .hour) (k .books .masks .measuredKept) (omega (arith, f .hour, f .all-days))
-
   no-plant : (x : Line) (done : List Line) → v ≡ viewOf (Inside x done) → v .plant .count ≡ 0 → x .plant ≡ []
   unfolding viewOf
   no-plant x done e z = empty-of (x .plant) (sym (survey-count (x .plant)) ∙ sym (ap (λ (w : View). w .plant .count) e) ∙ z)
 
-  pub took-enforcement : (stand : Stand) (r : Record) (t : Survey) (flags' conc' flow' : List ℕ) (u : Taken) → r ≡ OfEnforcement t → Ready stand bytes r v s o d
-      → EnforcementTaken v s t (runsAt (o .measured) (t .hour)) (o .flags) (o .concentrations) (o .flows) flags' conc' flow' u → Took stand bytes r u (inOpen (o .runs) (o .measured) (o .states) flags' conc' flow') d
+  pub took-enforcement : (stand : Stand) (r : Record) (t : Survey) (flags' : List ℕ) (o' : Tables) (u : Taken) → r ≡ OfEnforcement t → Ready stand bytes r v s o d
+      → EnforcementTaken v s t (o .runs) (o .flags) (tablesIn o) flags' o' u → Took stand bytes r u (inOpen (o .runs) (o' .measured) (o' .states) flags' (o' .concentrations) (o' .flows)) d
   unfolding taken takenInside judgeReadings
-  took-enforcement stand r t flags' conc' flow' u q k e =
+  took-enforcement stand r t flags' o' u q k e =
       let ok = enforcement-ok v (runsOf stand) t (judged stand r (OfEnforcement t) q k) in
       took-other stand r (OfEnforcement t) u _ d q (e .faults) refl
-      (in-line stand v (k .kept .view) (ok .1 .inside) (λ a. Kept a v s o d → Kept (taken a bytes (OfEnforcement t)) (u .view) (u .sums) (inOpen (o .runs) (o .measured) (o .states) flags' conc' flow') d)
+      (in-line stand v (k .kept .view) (ok .1 .inside)
+      (λ a. Kept a v s o d → Kept (taken a bytes (OfEnforcement t)) (u .view) (u .sums) (inOpen (o .runs) (o' .measured) (o' .states) flags' (o' .concentrations) (o' .flows)) d)
       (λ x done y.
       let f = survey-facts x done t (y .view) (ok .1) in
-      kept-enforcement x done v s t o d y (f .hour) (f .all-days) (f .room) (f .pair) flags' conc' flow' u (no-plant x done (y .view) (ok .0))
-      (subst (λ (b : Bool). EnforcementTaken v s t b (o .flags) (o .concentrations) (o .flows) flags' conc' flow' u) (measured-here x done t y f) e)) (k .kept))
+      kept-enforcement x done v s t o d y (f .hour) (f .all-days) (f .room) (f .pair) flags' o' u (no-plant x done (y .view) (ok .0)) e) (k .kept))
 
-  pub took-plant : (stand : Stand) (r : Record) (t : Survey) (conc' flow' : List ℕ) (u : Taken) → r ≡ OfPlant t → Ready stand bytes r v s o d
-      → PlantTaken v s t (runsAt (o .measured) (t .hour)) (o .flags) (o .concentrations) (o .flows) conc' flow' u → Took stand bytes r u (inOpen (o .runs) (o .measured) (o .states) (o .flags) conc' flow') d
+  pub took-plant : (stand : Stand) (r : Record) (t : Survey) (o' : Tables) (u : Taken) → r ≡ OfPlant t → Ready stand bytes r v s o d
+      → PlantTaken v s t (o .runs) (o .flags) (tablesIn o) o' u → Took stand bytes r u (inOpen (o .runs) (o' .measured) (o' .states) (o .flags) (o' .concentrations) (o' .flows)) d
   unfolding taken takenInside judgeReadings
-  took-plant stand r t conc' flow' u q k e =
+  took-plant stand r t o' u q k e =
       let ok = plant-ok v (runsOf stand) t (judged stand r (OfPlant t) q k) in
       took-other stand r (OfPlant t) u _ d q (e .faults) refl
-      (in-line stand v (k .kept .view) (ok .inside) (λ a. Kept a v s o d → Kept (taken a bytes (OfPlant t)) (u .view) (u .sums) (inOpen (o .runs) (o .measured) (o .states) (o .flags) conc' flow') d)
+      (in-line stand v (k .kept .view) (ok .inside)
+      (λ a. Kept a v s o d → Kept (taken a bytes (OfPlant t)) (u .view) (u .sums) (inOpen (o .runs) (o' .measured) (o' .states) (o .flags) (o' .concentrations) (o' .flows)) d)
       (λ x done y.
       let f = survey-facts x done t (y .view) ok in
-      kept-plant x done v s t o d y (f .hour) (f .all-days) (f .room) (f .pair) conc' flow' u
-      (subst (λ (b : Bool). PlantTaken v s t b (o .flags) (o .concentrations) (o .flows) conc' flow' u) (measured-here x done t y f) e)) (k .kept))
+      kept-plant x done v s t o d y (f .hour) (f .all-days) (f .room) (f .pair) o' u e) (k .kept))
 
   -- ---- a batch
   pub took-batch : (stand : Stand) (r : Record) (b : Batch) (u : Taken) → r ≡ OfBatch b → Ready stand bytes r v s o d → BatchTaken v s b u → Took stand bytes r u o d
@@ -235,7 +237,7 @@ module _ (bytes : List ℕ) (v : View) (s : Sums) (o : Open) (d : Done) where
       let a : length (x .days) ≡ x .head .days = days-all x done (y .view) (ok .days-done) in
       let n : length (x .days) ≡ v .head .days = a ∙ sym (ap (λ (w : View). w .head .days) (y .view)) in
       let kr : take (v .head .days) (o .runs) ≡ runMasks (x .days) = ap (λ (i : ℕ). take i (o .runs)) (sym n) ∙ y .books .masks .runsKept in
-      let km : take (v .head .days) (o .measured) ≡ measuredMasks (x .days) = ap (λ (i : ℕ). take i (o .measured)) (sym n) ∙ y .books .masks .measuredKept in
+      let km : take (v .head .days) (o .measured) ≡ measuredMasks (daysAfter x) = ap (λ (i : ℕ). take i (o .measured)) (sym n) ∙ y .books .masks .measuredKept in
       kept-end x done v s o d y a (no-entry x done (y .view) ok) conc' flow' d' u
       (subst₂ (λ (i : List ℕ) (j : ℕ). EndTaken v s i j (o .concentrations) (o .flows) d conc' flow' d' u) (states-kept (v .head .days) (o .runs) (o .measured) _ _ kr km) (first-kept (v .head .days) (o .runs) (o .measured) _ _ kr km) e)) (k .kept))
 
@@ -263,7 +265,7 @@ module _ (bytes : List ℕ) (v : View) (s : Sums) (o : Open) (d : Done) where
         flowLong = y .long .flows;
         days = n;
         running = omega (arith, ap (λ (w : View). w .running) e, running-period (x .days), b .days, b .period);
-        missing = omega (arith, ap (λ (w : View). w .missing) e, missing-period (x .days), running-period (x .days), b .days, b .period);
+        missing = omega (arith, ap (λ (w : View). w .missing) e, days-no-more x, missing-period (x .days), running-period (x .days), b .days, b .period);
         whole = day-in bytes m (sym (k .read) ∙ q) .0;
       }) (k .kept)
 
@@ -272,25 +274,27 @@ module _ (bytes : List ℕ) (v : View) (s : Sums) (o : Open) (d : Done) where
       let y = k .books .surveys in
       (omega (arith, y .counted, surveyed-most x, k .books .few), omega (arith, y .weighed, y .most, surveyed-most x, k .books .few))
 
-  ready-survey : (stand : Stand) (t : Survey) (count : ℕ) → count ≤ v .enforcement .count + v .plant .count → SurveyOk v t → Kept stand v s o d → SurveyReady t count s (o .concentrations) (o .flows)
+  ready-survey : (stand : Stand) (t : Survey) (count : ℕ) → count ≤ v .enforcement .count + v .plant .count → SurveyOk v t → Kept stand v s o d → SurveyReady t count v s (o .runs) (o .measured)
+  unfolding viewOf
   ready-survey stand t count l ok k =
-      in-line stand v (k .view) (ok .inside) (λ a. Kept a v s o d → SurveyReady t count s (o .concentrations) (o .flows))
+      in-line stand v (k .view) (ok .inside) (λ a. Kept a v s o d → SurveyReady t count v s (o .runs) (o .measured))
       (λ x done y.
       let f = survey-facts x done t (y .view) ok in
       let b = y .books in
+      let i : t .hour < hoursOfDay * length (x .days) = omega (arith, f .hour, f .all-days) in
+      let n = found-kept (length (x .days)) (t .hour) (o .runs) (o .measured) (runMasks (daysAfter x)) (measuredMasks (daysAfter x)) (b .masks .runsKept ∙ sym (days-runs x)) (b .masks .measuredKept) i in
       record {
         hour = omega (arith, f .hour, b .period);
-        concLong = y .long .concentrations;
-        flowLong = y .long .flows;
+        found = omega (arith, n, found-most t (daysAfter x) (omega (arith, i, days-length x)), ap (λ (w : View). w .missing) (y .view));
         room = omega (arith, ok .room, l);
         surveyed = omega (arith, b .surveys .counted, surveyed-most x, f .room);
         weight = weights-most x done y .1;
       }) k
 
-  pub ready-enforcement : (stand : Stand) (r : Record) (t : Survey) → r ≡ OfEnforcement t → Ready stand bytes r v s o d → SurveyReady t (v .enforcement .count) s (o .concentrations) (o .flows)
+  pub ready-enforcement : (stand : Stand) (r : Record) (t : Survey) → r ≡ OfEnforcement t → Ready stand bytes r v s o d → SurveyReady t (v .enforcement .count) v s (o .runs) (o .measured)
   ready-enforcement stand r t q k = ready-survey stand t (v .enforcement .count) (omega arith) (enforcement-ok v (runsOf stand) t (judged stand r (OfEnforcement t) q k) .1) (k .kept)
 
-  pub ready-plant : (stand : Stand) (r : Record) (t : Survey) → r ≡ OfPlant t → Ready stand bytes r v s o d → SurveyReady t (v .plant .count) s (o .concentrations) (o .flows)
+  pub ready-plant : (stand : Stand) (r : Record) (t : Survey) → r ≡ OfPlant t → Ready stand bytes r v s o d → SurveyReady t (v .plant .count) v s (o .runs) (o .measured)
   ready-plant stand r t q k = ready-survey stand t (v .plant .count) (omega arith) (plant-ok v (runsOf stand) t (judged stand r (OfPlant t) q k)) (k .kept)
 
   pub ready-batch : (stand : Stand) (r : Record) (b : Batch) → r ≡ OfBatch b → Ready stand bytes r v s o d

@@ -2,7 +2,7 @@
 use mathlib.Core.Path.{_≡_, refl, ap}
 use mathlib.Core.Bool.{false}
 use mathlib.Core.List.{List, [], _∷_}
-use Prim.Native.Nat.{ℕ, _+_}
+use Prim.Native.Nat.{ℕ, _+_, _-_}
 use native.Mathlib.Numerals.{add-one}
 use lib.ListN.{length}
 use Rattle.law.specs.Words.{sumOf}
@@ -11,8 +11,9 @@ use Rattle.rules.specs.declared.Survey.{Survey}
 use Rattle.rules.specs.declared.Batch.{Batch}
 use Rattle.rules.specs.Records.{Day}
 use Rattle.rules.specs.Hours.{running, lacking}
-use Rattle.rules.specs.Lines.{Line, fuel}
+use Rattle.rules.specs.Lines.{Line, besides, surveyed, putSurveys, daysAfter, fuel}
 use Rattle.rules.specs.Walk.{Between, Inside, noHead, viewOf, floorOf, surveysOf, begun, withDay, withEnforcement, withPlant, withBatch}
+use Rattle.walk.proofs.Hours.{after-day}
 use Rattle.walk.specs.Views.{oneMore, openedView, afterHead, afterDay, afterEnforcement, afterPlant, afterBatch, afterEnd}
 
 pub survey-count : (ss : List Survey) → surveysOf ss .count ≡ length ss
@@ -30,23 +31,24 @@ unfolding viewOf floorOf surveysOf
 view-start = refl
 
 pub view-head : (done : List Line) (h : Head) → afterHead (viewOf (Between done)) h ≡ viewOf (Inside (begun h) done)
-unfolding viewOf begun floorOf surveysOf running lacking fuel sumOf
+unfolding viewOf begun floorOf surveysOf surveyed besides daysAfter putSurveys running lacking fuel sumOf
 view-head done h = refl
 
-pub view-day : (x : Line) (done : List Line) (d : Day) → afterDay (viewOf (Inside x done)) (d .masks) ≡ viewOf (Inside (withDay x d) done)
+pub view-day : (x : Line) (done : List Line) (d : Day) → x .enforcement ≡ [] → x .plant ≡ [] → afterDay (viewOf (Inside x done)) (d .masks) ≡ viewOf (Inside (withDay x d) done)
 unfolding viewOf withDay floorOf running lacking sumOf
-view-day x done d = rw (add-one (length (x .days)))
+view-day x done d e q = rw (add-one (length (x .days)), after-day x d e q)
 
-pub view-enforcement : (x : Line) (done : List Line) (s : Survey) → afterEnforcement (viewOf (Inside x done)) (s .hour) ≡ viewOf (Inside (withEnforcement x s) done)
-unfolding viewOf withEnforcement floorOf
-view-enforcement x done s = rw (more-surveys s (x .enforcement))
+module _ (x : Line) (done : List Line) (s : Survey) (found : ℕ) where
+  pub view-enforcement : lacking (daysAfter (withEnforcement x s)) ≡ lacking (daysAfter x) - found → afterEnforcement (viewOf (Inside x done)) (s .hour) found ≡ viewOf (Inside (withEnforcement x s) done)
+  unfolding viewOf withEnforcement floorOf
+  view-enforcement e = rw (more-surveys s (x .enforcement), e)
 
-pub view-plant : (x : Line) (done : List Line) (s : Survey) → afterPlant (viewOf (Inside x done)) (s .hour) ≡ viewOf (Inside (withPlant x s) done)
-unfolding viewOf withPlant floorOf
-view-plant x done s = rw (more-surveys s (x .plant))
+  pub view-plant : lacking (daysAfter (withPlant x s)) ≡ lacking (daysAfter x) - found → afterPlant (viewOf (Inside x done)) (s .hour) found ≡ viewOf (Inside (withPlant x s) done)
+  unfolding viewOf withPlant floorOf
+  view-plant e = rw (more-surveys s (x .plant), e)
 
 pub view-batch : (x : Line) (done : List Line) (b : Batch) → afterBatch (viewOf (Inside x done)) (b .kg) ≡ viewOf (Inside (withBatch x b) done)
-unfolding viewOf withBatch floorOf fuel sumOf
+unfolding viewOf withBatch floorOf daysAfter surveyed fuel sumOf
 view-batch x done b = rw (add-one (length (x .batches)))
 
 pub view-end : (x : Line) (done : List Line) → afterEnd (viewOf (Inside x done)) ≡ viewOf (Between (x ∷ done))

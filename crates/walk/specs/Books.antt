@@ -9,10 +9,9 @@ use Rattle.rules.specs.declared.Pair.{Pair}
 use Rattle.rules.specs.declared.Survey.{Survey}
 use Rattle.rules.specs.declared.Batch.{Batch}
 use Rattle.rules.specs.declared.View.{View}
-use Rattle.rules.specs.Records.{Day}
 use Rattle.rules.specs.Slots.{Slot, valid, missing, stopped}
 use Rattle.rules.specs.Hours.{slotsOf, runMasks, measuredMasks}
-use Rattle.rules.specs.Lines.{Line, replaced, hasSurvey, surveyed, surveys as surveysIn}
+use Rattle.rules.specs.Lines.{Line, hasSurvey, surveyed, daysAfter, surveys as surveysIn}
 use Rattle.rules.specs.Fill.{Values, zeroes}
 use Rattle.rules.specs.Grams.{valuesOf, amount, surveyValues, sulphurOf}
 use Rattle.rules.specs.Row.{rowsOf, totalsOf, concentrationCells, flowCells}
@@ -57,19 +56,19 @@ inCell (valid p) = valuesOf p
 inCell missing = zeroes
 inCell stopped = zeroes
 
--- the values of hour h of a line so far; past its days 0
+-- the values of hour h of a line so far, after its surveys; past its days 0
 unfoldable pub valuesAt : Line → ℕ → Values
-valuesAt x h = inCell (replaced (x .enforcement) (x .plant) h (getD (slotsOf (x .days)) h stopped))
+valuesAt x h = inCell (getD (slotsOf (daysAfter x)) h stopped)
 
 -- 1 where an hour has an enforcement survey
 unfoldable pub flagAt : List Survey → ℕ → ℕ
 flagAt enforcement h = pick (hasSurvey h enforcement) 1 0
 
--- the masks of the days so far, and the states of their hours
-pub record MasksKept (days : List Day) (runs measured states : List ℕ) : Type 0 where
-  pub runsKept : take (length days) runs ≡ runMasks days
-  pub measuredKept : take (length days) measured ≡ measuredMasks days
-  pub statesKept : take (hoursOfDay * length days) states ≡ periodStates runs measured (length days)
+-- the masks of the days so far, a surveyed hour's measured bit set, and the states of their hours
+pub record MasksKept (x : Line) (runs measured states : List ℕ) : Type 0 where
+  pub runsKept : take (length (x .days)) runs ≡ runMasks (x .days)
+  pub measuredKept : take (length (x .days)) measured ≡ measuredMasks (daysAfter x)
+  pub statesKept : take (hoursOfDay * length (x .days)) states ≡ periodStates runs measured (length (x .days))
 
 -- one quantity of every hour, within its limit
 pub record CellsKept (value : ℕ → ℕ) (most : ℕ) (cells : List ℕ) : Type 0 where
@@ -92,7 +91,7 @@ pub record FuelKept (batches : List Batch) (sulphur ash : ℕ) : Type 0 where
 
 -- what the code holds of an open line. No survey comes before the last day
 pub record LineBooks (x : Line) (s : Sums) (o : Open) : Type 0 where
-  pub masks : MasksKept (x .days) (o .runs) (o .measured) (o .states)
+  pub masks : MasksKept x (o .runs) (o .measured) (o .states)
   pub concentrations : CellsKept (λ h. valuesAt x h .c) mostConcentration (o .concentrations)
   pub flows : CellsKept (λ h. valuesAt x h .l) mostFlow (o .flows)
   pub surveys : SurveysKept (x .head .days) (x .enforcement) (surveyed x) (s .surveyed) (s .weight) (o .flags)

@@ -1,6 +1,5 @@
 -- What the functions that take a record in promise each other.
 use Prim.Native.Nat.{ℕ, _+_, _*_, _<_, _≤_}
-use mathlib.Core.Bool.{Bool}
 use mathlib.Core.List.{List}
 use mathlib.Core.Path.{_≡_}
 use lib.ListN.{length, take, getD, set}
@@ -13,8 +12,9 @@ use Rattle.rules.specs.declared.Batch.{Batch}
 use Rattle.rules.specs.declared.View.{View}
 use Rattle.rules.specs.Records.{dayOf}
 use Rattle.hours.specs.States.{periodStates}
+use Rattle.hours.specs.Marks.{foundBy}
 use Rattle.line.specs.declared.surveyed.Weighed.{Weighed}
-use Rattle.line.specs.Put.{beats, SurveyPut, PlantPut}
+use Rattle.line.specs.Put.{Tables, beats, SurveyPut, PlantPut}
 use Rattle.line.specs.Line.{rowIn}
 use Rattle.rules.specs.Judge.{fine, judgeHours, lineMethod}
 use Rattle.day.specs.Day.{concentrationAt, flowAt, hourState}
@@ -37,10 +37,9 @@ pub record DayReady (bytes : List ℕ) (v : View) (m : Masks) (states conc flow 
   pub whole : 205 ≤ length bytes
 
 -- what a survey asks, of whose kind there are so many
-pub record SurveyReady (t : Survey) (count : ℕ) (s : Sums) (conc flow : List ℕ) : Type 0 where
+pub record SurveyReady (t : Survey) (count : ℕ) (v : View) (s : Sums) (runs measured : List ℕ) : Type 0 where
   pub hour : t .hour < mostHours
-  pub concLong : length conc ≡ mostHours
-  pub flowLong : length flow ≡ mostHours
+  pub found : foundBy (t .hour) runs measured ≤ v .missing
   pub room : count < mostSurveys
   pub surveyed : s .surveyed < mostSurveys
   pub weight : s .weight ≤ mostSurveys * mostAmount
@@ -65,21 +64,21 @@ pub record DayTaken (bytes : List ℕ) (v : View) (s : Sums) (m : Masks) (runs m
   pub concNow : r .fault .number ≡ 0 → conc' ≡ putFrom (concentrationAt (dayOf bytes)) hoursOfDay (hoursOfDay * m .day) conc
   pub flowNow : r .fault .number ≡ 0 → flow' ≡ putFrom (flowAt (dayOf bytes)) hoursOfDay (hoursOfDay * m .day) flow
 
--- an enforcement survey, in a measured hour or another
-pub record EnforcementTaken (v : View) (s : Sums) (t : Survey) (measured : Bool) (flags conc flow flags' conc' flow' : List ℕ) (r : Taken) : Type 0 where
+-- an enforcement survey
+pub record EnforcementTaken (v : View) (s : Sums) (t : Survey) (runs flags : List ℕ) (o : Tables) (flags' : List ℕ) (o' : Tables) (r : Taken) : Type 0 where
   pub weighed : Weighed
-  pub put : SurveyPut t measured conc flow conc' flow' weighed
+  pub put : SurveyPut t runs o o' weighed
   pub faults : r .fault ≡ fine
-  pub view : r .view ≡ afterEnforcement v (t .hour)
+  pub view : r .view ≡ afterEnforcement v (t .hour) (weighed .found)
   pub sums : r .sums ≡ withSurvey s weighed
   pub flagsNow : flags' ≡ set flags (t .hour) 1
 
 -- a plant survey, where an enforcement survey stands and where none does
-pub record PlantTaken (v : View) (s : Sums) (t : Survey) (measured : Bool) (flags conc flow conc' flow' : List ℕ) (r : Taken) : Type 0 where
+pub record PlantTaken (v : View) (s : Sums) (t : Survey) (runs flags : List ℕ) (o o' : Tables) (r : Taken) : Type 0 where
   pub weighed : Weighed
-  pub put : PlantPut t (beats flags (t .hour)) measured conc flow conc' flow' weighed
+  pub put : PlantPut t (beats flags (t .hour)) runs o o' weighed
   pub faults : r .fault ≡ fine
-  pub view : r .view ≡ afterPlant v (t .hour)
+  pub view : r .view ≡ afterPlant v (t .hour) (weighed .found)
   pub sums : r .sums ≡ withSurvey s weighed
 
 -- a batch

@@ -1,5 +1,5 @@
 -- The view and the sums after each kind of record that is not refused.
-use Prim.Native.Nat.{ℕ, _+_, _*_, max}
+use Prim.Native.Nat.{ℕ, _+_, _-_, _*_, max}
 use mathlib.Core.Bool.{Bool, true, false, not}
 use lib.Dec.{eqb}
 use Rattle.law.specs.Numbers.{hoursOfDay}
@@ -66,11 +66,12 @@ afterDay v m =
 abbrev pub oneMore : Surveys → ℕ → Surveys
 oneMore s hour = record { count = s .count + 1; floor = hour + 1 }
 
-abbrev pub afterEnforcement : View → ℕ → View
-afterEnforcement v hour = movedView v (v .days) (v .running) (v .missing) (oneMore (v .enforcement) hour) (v .plant) (v .batches) (v .fuel)
+-- a survey by which so many missing hours are fewer
+abbrev pub afterEnforcement : View → ℕ → ℕ → View
+afterEnforcement v hour found = movedView v (v .days) (v .running) (v .missing - found) (oneMore (v .enforcement) hour) (v .plant) (v .batches) (v .fuel)
 
-abbrev pub afterPlant : View → ℕ → View
-afterPlant v hour = movedView v (v .days) (v .running) (v .missing) (v .enforcement) (oneMore (v .plant) hour) (v .batches) (v .fuel)
+abbrev pub afterPlant : View → ℕ → ℕ → View
+afterPlant v hour found = movedView v (v .days) (v .running) (v .missing - found) (v .enforcement) (oneMore (v .plant) hour) (v .batches) (v .fuel)
 
 abbrev pub afterBatch : View → ℕ → View
 afterBatch v kg = movedView v (v .days) (v .running) (v .missing) (v .enforcement) (v .plant) (v .batches + 1) (kg + v .fuel)

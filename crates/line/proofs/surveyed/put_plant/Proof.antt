@@ -8,17 +8,25 @@ use Rattle.line.proofs.surveyed.put_plant.Tie as tie
 returns : tie.Need-returns
 returns c =
     let on = sym (c .before .is-flagged .ensures) ∙ c .if1 .taken in
-    record { weighs = pick-true _ _ _ _ on refl; concentrations = pick-true _ _ _ _ on refl; flows = pick-true _ _ _ _ on refl }
+    record { weighs = pick-true _ _ _ _ on refl; tables = pick-true _ _ _ _ on refl }
 
 returns-2 : tie.Need-returns-2
 returns-2 c =
-    let f = c .before .before .before .before in
+    let f = c .before .before .before .before .before .before .before .before in
     let y = f .put-survey .ensures in
-    let e = f .before .before .before in
+    let e = f .before .before .before .before .before in
     let off = sym (e .before .is-flagged .ensures) ∙ e .if1 .left in
-    record { weighs = pick-false _ _ _ _ off (y .weighs); concentrations = pick-false _ _ _ _ off (y .concentrations); flows = pick-false _ _ _ _ off (y .flows) }
+    record { weighs = pick-false _ _ _ _ off (y .weighs); tables = pick-false _ _ _ _ off (y .tables) }
 
 pub put-plant-spec : {M : Type 1} → statement M
 put-plant-spec =
     tie.close
-    (tie.spec (λ c κs. search needs) returns (λ c κs. search needs) (λ c. search needs) (λ c. search needs) returns-2)
+    (tie.spec
+    (λ c κs. search needs)
+    returns
+    (λ c κs. search needs)
+    (λ c. search needs)
+    (λ c. search needs)
+    (λ c. search needs)
+    (λ c. search needs)
+    returns-2)

@@ -1,27 +1,29 @@
 -- `line::surveyed::put_survey` meets its contract. Assumes nothing.
 use borrow.Author.Needs.{needs}
-use mathlib.Core.Path.{ap, ap₂, _∙_}
-use Prim.Native.Nat.{ℕ, _*_}
+use mathlib.Core.Path.{refl, ap, ap₂, _∙_}
+use Prim.Native.Nat.{_*_}
+use lib.ListN.{set}
 use denote.Ref.{now}
-use Rattle.rules.specs.Hours.{runsAt}
-use Rattle.line.specs.Put.{replacedCell}
-use Rattle.line.proofs.Surveys.{concentration-is, flow-is}
+use Rattle.line.proofs.Surveys.{concentration-is, flow-is, tables-are, adds}
 use Rattle.line.proofs.surveyed.put_survey.Statement.{statement}
 use Rattle.line.proofs.surveyed.put_survey.Tie as tie
 
 returns : tie.Need-returns
 returns c =
-    let second = c .before .before .before in
-    let first = second .before .before .before .before in
-    let f = first .before .before in
-    let a = f .before .before .before .before .args in
+    let flows = c .before .before .before in
+    let concentrations = flows .before .before .before .before in
+    let states = concentrations .before .before .before .before in
+    let masks = states .before .before .before .before in
+    let f = masks .before .before in
+    let a = f .before .before .before .before .before .before .before .args in
     let n = concentration-is (a .t) _ (f .flagged-pair .ensures) in
     let m = flow-is (a .t) _ (f .flagged-pair .ensures) in
-    let on = runsAt (now (a .measured)) (a .t .hour) in
+    let y = masks .mark-measured .ensures in
     record {
-      weighs = ap (λ (k : ℕ). record { count = 1; weight = k }) (c .product .ensures) ∙ ap₂ (λ (i j : ℕ). record { count = 1; weight = i * j }) n m;
-      concentrations = first .replace .ensures ∙ ap (λ (k : ℕ). replacedCell on (a .t .hour) k (now (a .conc))) n;
-      flows = second .replace2 .ensures ∙ ap (λ (k : ℕ). replacedCell on (a .t .hour) k (now (a .flow))) m;
+      weighs = adds _ _ _ _ refl (c .product .ensures ∙ ap₂ _*_ n m) (y .found);
+      tables =
+          tables-are _ _ _ _ _ _ _ _ (y .masks) (states .mark-state .ensures) (concentrations .put-cell .ensures ∙ ap (set (now (a .conc)) (a .t .hour)) n)
+          (flows .put-cell2 .ensures ∙ ap (set (now (a .flow)) (a .t .hour)) m);
     }
 
 pub put-survey-spec : {M : Type 1} → statement M
@@ -32,6 +34,10 @@ put-survey-spec =
     (λ c κs. search needs)
     (λ c κs. search needs)
     (λ c κs. search needs)
+    (λ c κs. search needs)
+    (λ c κs. search needs)
+    (λ c. search needs)
+    (λ c. search needs)
     (λ c. search needs)
     (λ c. search needs)
     returns)
