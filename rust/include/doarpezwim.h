@@ -19,9 +19,9 @@ extern "C" {
 #endif
 
 #define DOARPEZWIM_VERSION_MAJOR 0
-#define DOARPEZWIM_VERSION_MINOR 2
+#define DOARPEZWIM_VERSION_MINOR 3
 #define DOARPEZWIM_VERSION_PATCH 0
-#define DOARPEZWIM_VERSION "0.2.0"
+#define DOARPEZWIM_VERSION "0.3.0"
 
 /* Cells that each work slice has to have: the hours of 92 days. */
 #define DOARPEZWIM_WORK_CELLS 2208
@@ -109,6 +109,7 @@ enum doarpezwim_row_cell {
     DOARPEZWIM_ROW_METHOD = 2,
     DOARPEZWIM_ROW_GRAMS = 3,
     DOARPEZWIM_ROW_RUNNING_HOURS = 4,
+    /* Running hours for which neither the monitor nor a survey has data. */
     DOARPEZWIM_ROW_MISSING_HOURS = 5,
     /* Counted from 1 through the period; 0 if no hour is missing. */
     DOARPEZWIM_ROW_FIRST_MISSING_PLUS_1 = 6
@@ -126,8 +127,8 @@ enum doarpezwim_row_cell {
  * refusal, stay as they were. 7 x 48 cells are always enough.
  *
  * concentration, flow: work slices. After acceptance the first 2,208 cells of each hold the last line's hours, in
- * hundredths of mg/m3 and in m3/h; after a refusal they are zero, but 9 leaves both slices alone. Cells past 2,208 are
- * never written.
+ * hundredths of mg/m3 and in m3/h; a surveyed hour has the survey's values, also where the monitor missed it. After a
+ * refusal they are zero, but 9 leaves both slices alone. Cells past 2,208 are never written.
  */
 uint32_t doarpezwim_account(const uint8_t *file, size_t file_len, uint64_t *rows, size_t rows_len,
                             uint32_t *concentration, size_t concentration_len, uint32_t *flow, size_t flow_len,

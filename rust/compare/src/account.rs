@@ -29,7 +29,7 @@ impl AccountCall {
 
     /// A call that is lent two quarters for work.
     pub fn of_file(file: Vec<u8>, rows: usize, seed: u32) -> Self {
-        let case = Case { file, rows, concentration: reference::HOURS, flow: reference::HOURS, fills: None };
+        let case = Case { file, rows, concentration: reference::HOURS, flow: reference::HOURS, lines: None };
         AccountCall { case, seed }
     }
 

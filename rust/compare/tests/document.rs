@@ -29,5 +29,5 @@ fn answers_what_the_vectors_say() {
         texts.push(format!("{limit}{}", reference::text(&answer, &outcome.rows)));
         Ok(())
     }));
-    assert!(vectors::check(&vectors, texts) >= 660);
+    assert!(vectors::check(&vectors, texts) >= 869);
 }

@@ -109,8 +109,9 @@ pub fn account(file: &[u8]) -> Result<Account, Refusal> {
 /// Rows are written from the start of `rows`, and nothing past them; a refused file leaves all of them alone.
 ///
 /// Afterwards the first [`WORK_CELLS`] cells of the two work slices hold the last line's hours, in hundredths of mg/m3
-/// and in m3/h: measured, surveyed, or filled under [`Method::Automatic`](crate::Method::Automatic), and zero
-/// elsewhere. After a refusal they are zero, but 9 leaves both slices alone. Cells past them are never written.
+/// and in m3/h: measured; surveyed, also in an hour that the monitor missed; filled under
+/// [`Method::Automatic`](crate::Method::Automatic); and zero elsewhere. After a refusal they are zero, but 9 leaves
+/// both slices alone. Cells past them are never written.
 ///
 /// ```
 /// use doarpezwim::{ROW_CELLS, WORK_CELLS};

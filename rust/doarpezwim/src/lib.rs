@@ -14,9 +14,10 @@
 //! [`account_into`] is the same call over slices that the caller lends, [`Panel`] keeps a running total hour by hour,
 //! and [`governing_survey`] finds the survey that counts at an hour.
 //!
-//! The calls are proved in Rattle and linked from a static archive. They answer what document 01 says for every input,
-//! read and write nothing but what they are lent, allocate nothing and keep no state. This crate adds types, and the
-//! borrow rules that the C interface cannot state; it is not proved itself. A call takes about 32 KB of stack.
+//! The calls are proved in Rattle and linked from a static archive. They answer what document 01 with requests A1 and
+//! A2 says for every input, read and write nothing but what they are lent, allocate nothing and keep no state. This
+//! crate adds types, and the borrow rules that the C interface cannot state; it is not proved itself. A call takes
+//! about 32 KB of stack.
 #![warn(missing_docs)]
 
 mod account;

@@ -42,7 +42,7 @@ impl fmt::Display for Pollutant {
 /// What the grams were stated from.
 #[derive(Clone, Copy, Debug, PartialEq, Eq, PartialOrd, Ord, Hash)]
 pub enum Method {
-    /// 1: the monitor's hours, gaps filled: at most a quarter of the running hours lack data.
+    /// 1: the monitor's hours and the surveyed ones, gaps filled: at most a quarter of the running hours lack data.
     Automatic = 1,
     /// 2: the surveys.
     Manual = 2,
@@ -90,7 +90,7 @@ pub struct Row {
     pub grams: u64,
     /// Hours in which the stack ran.
     pub running_hours: u32,
-    /// Running hours without data.
+    /// Running hours without data: neither the monitor nor a survey has any.
     pub missing_hours: u32,
     /// The first of them, counted from 0 through the period.
     pub first_missing_hour: Option<u32>,

@@ -1,10 +1,9 @@
 //! One input of the account call: a file and the lengths of the lent slices.
 
-use crate::census::{Fill, fills};
 use crate::damage::damaged;
 use crate::rng::Rng;
 use crate::sound::{self, Size};
-use crate::wire;
+use crate::wire::{self, Line};
 
 #[derive(Debug)]
 pub struct Case {
@@ -12,8 +11,8 @@ pub struct Case {
     pub rows: usize,
     pub concentration: usize,
     pub flow: usize,
-    /// The gaps of the automatic lines of a file that was made sound; `None` if it was not.
-    pub fills: Option<Vec<Fill>>,
+    /// The lines of a file that was made sound; `None` if it was not.
+    pub lines: Option<Vec<Line>>,
 }
 
 impl Case {
@@ -24,7 +23,7 @@ impl Case {
     }
 
     pub fn of_size(size: Size, rng: &mut Rng) -> Self {
-        let (file, fills) = match rng.below(100) {
+        let (file, lines) = match rng.below(100) {
             0 => (Vec::new(), Some(Vec::new())),
             1 => {
                 let length = rng.below(300);
@@ -32,13 +31,13 @@ impl Case {
             }
             2..=56 => {
                 let lines = sound::lines(size, rng);
-                (wire::file(&lines), Some(lines.iter().flat_map(fills).collect()))
+                (wire::file(&lines), Some(lines))
             }
             57..=85 => (damaged(sound::lines(size, rng), 1, rng), None),
             86..=95 => (damaged(sound::lines(size, rng), 2, rng), None),
             _ => (damaged(sound::lines(size, rng), 5, rng), None),
         };
-        Case { file, rows: rows(rng), concentration: work(rng), flow: work(rng), fills }
+        Case { file, rows: rows(rng), concentration: work(rng), flow: work(rng), lines }
     }
 }
 

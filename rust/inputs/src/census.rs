@@ -4,7 +4,9 @@ use std::collections::BTreeMap;
 
 use crate::case::Case;
 use crate::field::{Field, Named, Spot, wrong_in_record};
+use crate::outage::{Outage, outages};
 use crate::outcome::Outcome;
+use crate::running::{Running, running_hours};
 use crate::wire::Line;
 
 /// How a gap is filled.
@@ -43,19 +45,13 @@ impl Fill {
     }
 }
 
-/// The fills of a line, if it stays automatic.
-pub fn fills(line: &Line) -> Vec<Fill> {
-    let hours =
-        line.days.iter().flat_map(|day| (0..24).map(move |hour| (day.run >> hour & 1, day.measured >> hour & 1)));
-    let running: Vec<bool> = hours.filter(|&(run, _)| run == 1).map(|(_, measured)| measured == 1).collect();
-    let valid = running.iter().filter(|&&measured| measured).count();
-    if 4 * (running.len() - valid) > running.len() {
-        return Vec::new();
-    }
+/// The fills of an automatic line.
+fn fills(hours: &[Running]) -> Vec<Fill> {
+    let valid = hours.iter().filter(|hour| hour.is_valid()).count();
     let mut before = 0;
     let mut fills = Vec::new();
-    for run in running.chunk_by(|one, next| one == next) {
-        if run[0] {
+    for run in hours.chunk_by(|one, next| one.is_valid() == next.is_valid()) {
+        if run[0].is_valid() {
             before += run.len();
         } else {
             fills.push(Fill::of_gap(run.len(), before, valid - before));
@@ -67,7 +63,8 @@ pub fn fills(line: &Line) -> Vec<Fill> {
 /// The numbers that an account can be answered with; 3 is not given.
 const NUMBERS: [usize; 13] = [0, 1, 2, 4, 5, 6, 7, 8, 9, 14, 15, 16, 17];
 
-/// Counts by number, for refusals and methods, by kind of fill, and by the field that a refusal names.
+/// Counts by number, for refusals and methods, by kind of fill, by what surveys do in missing hours, and by the field
+/// that a refusal names.
 #[derive(Debug, Default)]
 pub struct Census {
     pub inputs: u64,
@@ -75,6 +72,7 @@ pub struct Census {
     pub numbers: [u64; 18],
     pub methods: [u64; 5],
     pub fills: [u64; 7],
+    pub outages: BTreeMap<Outage, u64>,
     pub fields: BTreeMap<(Field, Spot), u64>,
     /// Two wrong fields of one record, of which the first is named.
     pub pairs: BTreeMap<(Field, Field), u64>,
@@ -90,6 +88,7 @@ impl Census {
         add_each(&mut self.numbers, &other.numbers);
         add_each(&mut self.methods, &other.methods);
         add_each(&mut self.fills, &other.fills);
+        add_entries(&mut self.outages, &other.outages);
         add_entries(&mut self.fields, &other.fields);
         add_entries(&mut self.pairs, &other.pairs);
         add_entries(&mut self.misplaced, &other.misplaced);
@@ -104,12 +103,9 @@ impl Census {
         for row in outcome.stated() {
             self.methods[row[2] as usize] += 1;
         }
-        match &case.fills {
+        match &case.lines {
             Some(_) if ![0, 8, 9].contains(&number) => Err(format!("a file was made sound and is refused: {number}")),
-            Some(fills) if number == 0 => {
-                fills.iter().for_each(|&fill| self.fills[fill as usize] += 1);
-                Ok(())
-            }
+            Some(lines) if number == 0 => self.count_lines(lines, outcome),
             _ if [4, 14, 15, 16, 17].contains(&number) => self.count_field(case, outcome),
             _ if number == 2 => {
                 let wrong = wrong_in_record(outcome.place() as usize, &case.file);
@@ -118,6 +114,23 @@ impl Census {
             }
             _ => Ok(()),
         }
+    }
+
+    fn count_lines(&mut self, lines: &[Line], outcome: &Outcome) -> Result<(), String> {
+        for (number, (line, row)) in lines.iter().zip(outcome.stated()).enumerate() {
+            let hours = running_hours(line);
+            let missing = hours.iter().filter(|hour| !hour.is_valid()).count();
+            if row[5] != missing as u64 {
+                return Err(format!("line {number} is left with {missing} missing hours, and its row says {}", row[5]));
+            }
+            if row[2] == 1 {
+                fills(&hours).into_iter().for_each(|fill| self.fills[fill as usize] += 1);
+            }
+            for outage in outages(line, &hours, row[2], number + 1 == lines.len()) {
+                *self.outages.entry(outage).or_default() += 1;
+            }
+        }
+        Ok(())
     }
 
     fn count_field(&mut self, case: &Case, outcome: &Outcome) -> Result<(), String> {
@@ -136,6 +149,10 @@ impl Census {
         let numbers = NUMBERS.map(|number| (format!("number {number}"), self.numbers[number]));
         let methods = (1..=4).map(|method| (format!("method {method}"), self.methods[method]));
         let fills = Fill::ALL.map(|fill| (format!("fill {fill:?}"), self.fills[fill as usize]));
+        let outages = Outage::all().into_iter().map(|outage| {
+            let count = self.outages.get(&outage).copied().unwrap_or(0);
+            (format!("outage {outage:?}"), count)
+        });
         let spots = Field::ALL.into_iter().flat_map(|field| field.spots().iter().map(move |&spot| (field, spot)));
         let fields = spots.map(|(field, spot)| {
             let count = self.fields.get(&(field, spot)).copied().unwrap_or(0);
@@ -145,7 +162,7 @@ impl Census {
             let count = self.misplaced.get(&field).copied().unwrap_or(0);
             (format!("number 2 before {field:?}"), count)
         });
-        numbers.into_iter().chain(methods).chain(fills).chain(fields).chain(misplaced).collect()
+        numbers.into_iter().chain(methods).chain(fills).chain(outages).chain(fields).chain(misplaced).collect()
     }
 
     /// All pairs of wrong fields in one record that a run has to reach, and how often it did.

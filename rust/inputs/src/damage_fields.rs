@@ -3,6 +3,7 @@
 use crate::reading;
 use crate::rng::Rng;
 use crate::sound::{self, MOST_FUEL};
+use crate::sound_surveys::survey;
 use crate::wire::{Batch, Day, Head, Line, Survey};
 
 type Fault = fn(&mut Line, &mut Rng);
@@ -168,7 +169,7 @@ fn survey_hour(line: &mut Line, rng: &mut Rng) {
     let hour = rng.pick(&[past, past + 1, hour, u16::MAX]);
     let surveys = surveys(line, rng);
     surveys.pop();
-    surveys.push(sound::survey(hour, rng));
+    surveys.push(survey(hour, rng));
     if rng.chance(1, 2) {
         spoil_survey(surveys.last_mut().expect("it was put there"), rng);
     }
@@ -178,7 +179,7 @@ fn survey_readings(line: &mut Line, rng: &mut Rng) {
     let hours = 24 * line.days.len();
     let surveys = surveys(line, rng);
     if surveys.is_empty() {
-        surveys.push(sound::survey(rng.below(hours) as u16, rng));
+        surveys.push(survey(rng.below(hours) as u16, rng));
     }
     spoil_survey(any(surveys, rng), rng);
 }

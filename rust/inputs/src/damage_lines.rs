@@ -6,6 +6,7 @@ use crate::damage_fields::{spoil_batch, spoil_head, spoil_survey};
 use crate::reading;
 use crate::rng::Rng;
 use crate::sound;
+use crate::sound_surveys::survey;
 use crate::wire::{Line, Survey};
 
 /// One type for all faults, although not each of them needs a whole `Vec`.
@@ -31,9 +32,11 @@ fn any<'a>(lines: &'a mut [Line], rng: &mut Rng) -> &'a mut Line {
     &mut lines[place]
 }
 
-/// Makes every running hour miss its data, and the line one that goes by fuel.
+/// Makes two hours of three miss their data, and the line one that goes by fuel: half of those keep their surveys.
 fn darken(line: &mut Line) {
     line.head.required = 1;
+    line.enforcement.retain(|survey| survey.hour % 3 != 1);
+    line.plant.retain(|survey| survey.hour % 3 != 1);
     for day in &mut line.days {
         (0..24).filter(|hour| hour % 3 != 0).for_each(|hour| day.miss(hour));
     }
@@ -75,7 +78,7 @@ fn too_many_surveys(lines: &mut Vec<Line>, rng: &mut Rng) {
     let hours = 24 * line.days.len();
     let first = rng.below(hours);
     let surveys = |from: usize, to: usize, rng: &mut Rng| -> Vec<Survey> {
-        (from..to).map(|hour| sound::survey(hour as u16, rng)).collect()
+        (from..to).map(|hour| survey(hour as u16, rng)).collect()
     };
     line.days.iter_mut().for_each(|day| day.run = 0xff_ffff);
     line.enforcement = surveys(first, hours.min(first + 120), rng);
@@ -102,7 +105,7 @@ fn too_many_lines(lines: &mut Vec<Line>, rng: &mut Rng) {
     line.head.days = 1;
     line.enforcement.retain(|survey| survey.hour < 24);
     line.plant.retain(|survey| survey.hour < 24);
-    if sound::by_fuel(&line.days) {
+    if sound::over_a_quarter(&line) {
         line.head = crate::wire::Head { furnace: 1, coal: 1, megawatts: 100, ..line.head };
         line.batches = vec![sound::batch(1_000, rng)];
     }

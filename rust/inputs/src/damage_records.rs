@@ -6,6 +6,7 @@ use crate::damage_fields::{spoil_batch, spoil_head, spoil_hours, spoil_masks, sp
 use crate::reading;
 use crate::rng::Rng;
 use crate::sound;
+use crate::sound_surveys::survey;
 use crate::wire::{Batch, Day, Head, Record, Survey};
 
 /// One type for all faults, although not each of them needs a whole `Vec`.
@@ -239,7 +240,7 @@ fn wrong_day(records: &mut [Record], rng: &mut Rng) -> Option<Record> {
 
 /// Half of them past every period.
 fn wrong_survey(rng: &mut Rng) -> Record {
-    let mut survey = sound::survey(rng.pick(&[0, 23, 2_208, u16::MAX]), rng);
+    let mut survey = survey(rng.pick(&[0, 23, 2_208, u16::MAX]), rng);
     spoil_survey(&mut survey, rng);
     if rng.chance(1, 2) { Record::Enforcement(survey) } else { Record::Plant(survey) }
 }

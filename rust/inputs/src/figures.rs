@@ -1,7 +1,8 @@
-//! The worked figures and the example of document 01, one table for every implementation of the account call.
+//! The worked figures and the example of document 01 with request A2's case, one table for every implementation of the
+//! account call.
 
 use crate::outcome::Outcome;
-use crate::wire::{self, Batch, Day, Head, Line};
+use crate::wire::{self, Batch, Day, Head, Line, Survey};
 
 #[derive(Clone, Copy, Debug)]
 enum States {
@@ -66,11 +67,21 @@ fn reading(name: &'static str, concentration: f32, flow: f32, states: States) ->
 }
 
 /// A line of `running` hours, of which the last is missing.
-fn quarter(name: &'static str, running: usize, states: States) -> Figure {
+fn one_missing(running: usize) -> Line {
     let mut day = Day::stopped(0);
     (0..running).for_each(|hour| day.measure(hour, 10.0, 100.0));
     day.miss(running - 1);
-    Figure::of_line(name, line(HEAD, day, &[BATCH]), states)
+    line(HEAD, day, &[BATCH])
+}
+
+fn quarter(name: &'static str, running: usize, states: States) -> Figure {
+    Figure::of_line(name, one_missing(running), states)
+}
+
+/// Three running hours, of which the last is missing and surveyed: request A2.
+fn surveyed(name: &'static str, enforcement: &[Survey], plant: &[Survey], states: States) -> Figure {
+    let line = Line { enforcement: enforcement.to_vec(), plant: plant.to_vec(), ..one_missing(3) };
+    Figure::of_line(name, line, states)
 }
 
 /// A line whose only running hour is missing, so that fuel speaks.
@@ -84,6 +95,7 @@ fn fuel(name: &'static str, head: Head, batches: &[Batch], states: States) -> Fi
 pub fn figures() -> Vec<Figure> {
     let dioxide = Head { pollutant: 1, ..HEAD };
     let stronger = Batch { sulphur: 100, ..BATCH };
+    let survey = Survey { hour: 2, concentration: 30.0, flow: 100.0 };
     vec![
         reading("0.125 gives 13", 0.125, 1.0, States::Cells(13, 1)),
         reading("10000 + 5/1024", 10_000.0 + 5.0 / 1024.0, 1.0, States::Cells(1_000_000, 1)),
@@ -94,6 +106,8 @@ pub fn figures() -> Vec<Figure> {
         reading("minus zero", -0.0, -0.0, States::Cells(0, 0)),
         quarter("four with one missing", 4, States::Row(1, 4)),
         quarter("three with one missing", 3, States::Row(4, 8_010_000)),
+        surveyed("three with one missing and an enforcement survey", &[survey], &[], States::Row(1, 5)),
+        surveyed("three with one missing and a plant survey", &[], &[survey], States::Row(1, 5)),
         fuel("balance", dioxide, &[BATCH], States::Row(3, 14_184_000)),
         fuel("balance, two batches", dioxide, &[BATCH, stronger], States::Row(3, 35_460_000)),
         fuel("oxides", Head { megawatts: 450, ..HEAD }, &[BATCH], States::Row(4, 7_950_000)),

@@ -14,9 +14,12 @@ enum Hour {
 /// Gap lengths about the border of 24, and some far from it.
 const GAPS: [usize; 12] = [1, 1, 2, 3, 23, 24, 24, 25, 25, 26, 27, 40];
 
+/// Days with room for a long gap and more than 720 other hours.
+pub const LONG: usize = 33;
+
 /// The days of a line.
 pub fn days(count: usize, rng: &mut Rng) -> Vec<Day> {
-    if count >= 40 && rng.chance(1, 2) {
+    if count >= LONG && rng.chance(2, 3) {
         return window(count, rng);
     }
     let hours = match rng.below(16) {
@@ -120,11 +123,15 @@ fn window(count: usize, rng: &mut Rng) -> Vec<Day> {
     let mut hours = mostly_measured(count, rng);
     let all = running(&hours).len();
     let length = rng.pick(&[24, 25, 26, 60, 150]).min(all / 5);
-    let start = rng.pick(&[0, 0, 700, 719, 720, 721, 722, 750, 900]).min(all - length);
-    if start > 0 && rng.chance(1, 2) {
-        carve(&mut hours, rng.below(start), 3);
-    }
+    let start = rng.pick(&[0, 0, 0, 700, 719, 720, 721, 722, 750, 900]).min(all - length);
     carve(&mut hours, start, length);
+    if rng.chance(3, 4) {
+        // Three more, which surveys may bring back: about 720 hours from the gap, or nearer.
+        let (near, far) = (rng.between(3, 718), rng.between(719, 724));
+        let away = rng.pick(&[near, far, far]);
+        let place = if start == 0 { length + away - 3 } else { start.saturating_sub(away) };
+        carve(&mut hours, place, 3);
+    }
     let peaks = peak_hours(&hours, start, rng);
     let high = 1_000 + rng.below(1_000);
     days_of(&hours, |hour| {
@@ -134,7 +141,8 @@ fn window(count: usize, rng: &mut Rng) -> Vec<Day> {
     })
 }
 
-/// Where concentration and flow peak: the valid hours number 718 to 723, counted from the gap.
+/// Where concentration and flow peak: the measured hours number 715 to 723, counted from the gap; surveyed ones may
+/// come between.
 fn peak_hours(hours: &[Hour], start: usize, rng: &mut Rng) -> (usize, usize) {
     let first = running(hours).get(start).copied().unwrap_or(0);
     let valid = |from: usize, to: usize| (from..to).filter(|&hour| hours[hour] == Hour::Measured);
@@ -142,6 +150,6 @@ fn peak_hours(hours: &[Hour], start: usize, rng: &mut Rng) -> (usize, usize) {
         0 => valid(first, hours.len()).collect(),
         _ => valid(0, first).rev().collect(),
     };
-    let mut peak = || counted.get(rng.between(717, 722)).copied().unwrap_or(usize::MAX);
+    let mut peak = || counted.get(rng.between(714, 722)).copied().unwrap_or(usize::MAX);
     (peak(), peak())
 }

@@ -38,6 +38,19 @@ impl Rng {
         from.iter().copied().filter(|_| self.chance(times, of)).take(most).collect()
     }
 
+    /// `count` rising members of `from`, all as likely as others; all of them if there are not so many.
+    pub fn choose(&mut self, from: &[u16], count: usize) -> Vec<u16> {
+        let mut wanted = count;
+        let mut left = from.len();
+        let mut taken = |_: &u16| {
+            let take = self.chance(wanted, left);
+            left -= 1;
+            wanted -= usize::from(take);
+            take
+        };
+        from.iter().copied().filter(&mut taken).collect()
+    }
+
     pub fn garbage_u32(&mut self, length: usize) -> Vec<u32> {
         (0..length).map(|_| self.word() as u32).collect()
     }

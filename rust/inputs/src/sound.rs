@@ -1,9 +1,10 @@
 //! Sound lines: every furnace, coal, pollutant, size and mark, every method, up to every limit.
 
 use crate::hours;
-use crate::reading;
 use crate::rng::Rng;
-use crate::wire::{Batch, Day, Head, Line, Survey};
+use crate::running::running_hours;
+use crate::sound_surveys::surveys;
+use crate::wire::{Batch, Head, Line};
 
 /// Kg that a line may burn.
 pub const MOST_FUEL: u64 = 10_000_000_000;
@@ -69,20 +70,23 @@ fn line(stack: u16, pollutant: u8, count: usize, rng: &mut Rng) -> Line {
     let days = hours::days(count, rng);
     let (enforcement, plant) = surveys(&days, rng);
     let required = rng.below(2) as u8;
-    let mut head = boiler(stack, pollutant, required, count as u8, rng);
-    let needs_fuel = by_fuel(&days) && (required == 1 || enforcement.is_empty() && plant.is_empty());
-    while needs_fuel && !covered(&head) {
-        head = boiler(stack, pollutant, required, count as u8, rng);
+    let head = boiler(stack, pollutant, required, count as u8, rng);
+    let mut line = Line { head, days, enforcement, plant, batches: Vec::new() };
+    let surveyed = !line.enforcement.is_empty() || !line.plant.is_empty();
+    let needs_fuel = over_a_quarter(&line) && (required == 1 || !surveyed);
+    while needs_fuel && !covered(&line.head) {
+        line.head = boiler(stack, pollutant, required, count as u8, rng);
     }
-    let batches = if needs_fuel || rng.chance(1, 4) { batches(rng) } else { Vec::new() };
-    Line { head, days, enforcement, plant, batches }
+    if needs_fuel || rng.chance(1, 4) {
+        line.batches = batches(rng);
+    }
+    line
 }
 
-/// Whether more than a quarter of the running hours are missing.
-pub fn by_fuel(days: &[Day]) -> bool {
-    let running: u32 = days.iter().map(|day| day.run.count_ones()).sum();
-    let missing: u32 = days.iter().map(|day| (day.run & !day.measured).count_ones()).sum();
-    4 * missing > running
+/// Whether more than a quarter of the running hours are missing and not surveyed.
+pub fn over_a_quarter(line: &Line) -> bool {
+    let running = running_hours(line);
+    4 * running.iter().filter(|hour| !hour.is_valid()).count() > running.len()
 }
 
 /// A head with any boiler.
@@ -104,36 +108,6 @@ pub fn covered(head: &Head) -> bool {
         (3, 4) => head.megawatts < 20 && [1, 3, 4, 5].contains(&head.coal),
         _ => false,
     }
-}
-
-/// Surveys at running hours, measured and missing ones, some of them by both offices at one hour.
-fn surveys(days: &[Day], rng: &mut Rng) -> (Vec<Survey>, Vec<Survey>) {
-    let running: Vec<u16> = (0..24 * days.len()).filter(|hour| runs(days, *hour)).map(|hour| hour as u16).collect();
-    let of = rng.pick(&[0, 0, 0, 2, 8, 30, 120]);
-    if of == 0 {
-        return (Vec::new(), Vec::new());
-    }
-    let shared = rng.sample(&running, 1, 2 * of, 40);
-    let mut hours = |most: usize| {
-        let mut hours = rng.sample(&running, 1, of, most);
-        hours.extend(&shared);
-        hours.sort_unstable();
-        hours.dedup();
-        hours.truncate(most);
-        hours
-    };
-    let enforcement = hours(90);
-    let plant = hours(120 - enforcement.len());
-    let mut survey = |hour| survey(hour, rng);
-    (enforcement.into_iter().map(&mut survey).collect(), plant.into_iter().map(&mut survey).collect())
-}
-
-fn runs(days: &[Day], hour: usize) -> bool {
-    days[hour / 24].run >> (hour % 24) & 1 == 1
-}
-
-pub fn survey(hour: u16, rng: &mut Rng) -> Survey {
-    Survey { hour, concentration: reading::concentration(rng), flow: reading::flow(rng) }
 }
 
 fn batches(rng: &mut Rng) -> Vec<Batch> {

@@ -1,4 +1,4 @@
-//! The reference against the worked figures of document 01.
+//! The reference against the worked figures of document 01 and request A2's case.
 
 use inputs::Outcome;
 

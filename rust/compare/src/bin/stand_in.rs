@@ -42,7 +42,7 @@ fn bytes(count: u32, input: &mut impl Read) -> io::Result<Vec<u8>> {
 fn account([length, rows, concentration, flow, seed]: [u32; 5], input: &mut impl Read) -> io::Result<Vec<u8>> {
     let file = bytes(length, input)?;
     let [rows, concentration, flow] = [rows, concentration, flow].map(|count| count as usize);
-    let case = Case { file, rows, concentration, flow, fills: None };
+    let case = Case { file, rows, concentration, flow, lines: None };
     let outcome = AccountCall { case, seed }.expected();
     let mut answer: Vec<u8> = outcome.answer.iter().chain(&outcome.rows).flat_map(|cell| cell.to_le_bytes()).collect();
     answer.extend(outcome.concentration.iter().chain(&outcome.flow).flat_map(|cell| cell.to_le_bytes()));
