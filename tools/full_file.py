@@ -57,7 +57,7 @@ FILE = b''.join((
     line(512, 2, 0, GRATE, 14, [], [(1, 200)], 0, 0, 4),
     line(512, 3, 1, GRATE, 28, [(600, 72)], [(0, 400)], 0, 1, 6),
     line(65_535, 1, 0, SLAG, 25, [], [(0, 600)], 0, 0, 3),
-    # automatic with a long gap before the first valid hour; the last line, whose cells are left behind
+    # automatic, dark in its first 40 hours but for a survey of both offices in the third; the last line, whose cells are left behind
     line(65_535, 2, 1, SLAG, 20, [(100, 24)], [(0, 40), (130, 2), (133, 25), (400, 24)], 1, 1, 1),
     line(65_535, 3, 0, SLAG, 17, [(30, 9)], [(25, 4), (39, 3), (200, 30)], 1, 0, 2),
 ))

@@ -40,7 +40,7 @@ OUTAGE = spans((1000, 77))
 
 
 def sulphur_dioxide(stack):
-    # short gaps, one over the outage, one of 31 hours; an inspector's survey replaces an hour
+    # short gaps, one over the outage, one of 31 hours; an inspector's survey replaces an hour, and the plant's is the data of one that was missing
     gaps = spans((50, 1), (200, 4), (611, 24), (990, 14), (1500, 31), (2207, 1))
     return head(stack, 1, 1) + days(31.0, OUTAGE, gaps) + survey(3, 430, 33.25, 871_000.0) + survey(4, 430, 32.0, 870_000.0) + survey(4, 612, 30.5, 905_000.5) + END
 
