@@ -8,3 +8,4 @@ pub mod Silent
 pub mod Wrong
 pub mod Places
 pub mod Three
+pub mod Running

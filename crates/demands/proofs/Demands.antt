@@ -21,11 +21,11 @@ use Rattle.rules.specs.declared.Answer.{Answer}
 use Rattle.rules.specs.Row.{concentrationCells, flowCells}
 use Rattle.rules.specs.Judge.{refuse}
 use Rattle.rules.proofs.Surveyed.{days-no-more}
-use Rattle.rules.proofs.Alone.{nothing-else}
 use Rattle.rules.specs.Account.{refusal, acceptance, answerOf, rowsAfter, workAfter}
 use Rattle.answers.proofs.Answers.{stated}
 use Rattle.answers.proofs.Places.{answer-points}
 use Rattle.answers.proofs.Three.{never-three}
+use Rattle.answers.proofs.Running.{accepted-alone}
 use Rattle.answers.specs.Places.{ofField, PointsAt}
 use Rattle.answers.proofs.Only.{promise-only}
 use Rattle.panel.proofs.Runs.{run-exact, run-fits, run-good, run-value, run-accepts}
@@ -174,7 +174,8 @@ demands =
       three = near;
       alone = ((refuser, refuses), alone);
       places = pointed;
-      outage = λ x. (days-no-more x, nothing-else x);
+      outage = days-no-more;
+      elsewhere = accepted-alone;
       readings = in-units;
       panel = panel-exact;
       survey = governs;

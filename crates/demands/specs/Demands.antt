@@ -1,11 +1,11 @@
 -- What is proved of this program, on one page: statements only. `demands` and `code` of proofs/Demands.antt prove the two records at the end.
 use Prim.Native.Nat.{ℕ, _+_, _-_, _*_, _/_, _^_, _≤_, _<_}
-use mathlib.Core.{Bool.Bool, Bool.true, Bool.false, List.List, Logic._↔_, Path._≡_}
+use mathlib.Core.{Bool.Bool, Bool.true, Bool.false, List.List, List._∷_, List._++_, Logic._↔_, Path._≡_}
 use lib.{ListN.length, ListN.take, ListN.drop, ListN.getD, Ieee.Exact.HasValue}
 use denote.Ref.{RefT, ptr, now}
 use Rattle.law.specs.Numbers.{mostHours, rowCells}
 use Rattle.reading.specs.{declared.Hour.Hour, Reading.reading, Reading.allowed, Reading.exact}
-use Rattle.rules.specs.{declared.Head.Head, declared.Answer.Answer, Hours.lacking, Lines.Line, Lines.surveyed, Lines.daysAfter, Alone.allMeasured, Alone.daysAlone, Grams.grams, Row.rowOf, Walk.Accepted, Walk.outcome, Account.Promise}
+use Rattle.rules.specs.{declared.Head.Head, declared.Answer.Answer, Hours.lacking, Lines.Line, Lines.surveyed, Lines.daysAfter, Alone.noneMissing, Alone.daysAlone, Grams.grams, Row.rowOf, Walk.Accepted, Walk.outcome, Account.Promise}
 use Rattle.answers.specs.{Heads.headsOf, Places.ofField, Places.PointsAt}
 use Rattle.allowance.specs.Allowance.{Near}
 use Rattle.panel.specs.{Lawful.asTotal, Panel.emptyPanel, Runs.after, Runs.products, Runs.missingHours, Runs.NoneRefused, Runs.NoneBad}
@@ -108,9 +108,11 @@ pub record Demands : Type 0 where
   pub alone : ((v : Version) × RefusesAll v) × ((v : Version) → RefusesAll v → EveryRowNear v × (Keeps v → ⊥))
   -- WHICH FIELD (A1): no call is refused with 3; 4 and 14 to 17 point at the first field of the refused record that is out of range (read `PointsAt`)
   pub places : (c : Call) (r : Result) → Kept c r → (r .answer .number ≡ 3 → ⊥) × (ofField (r .answer .number) ≡ true → PointsAt (c .file) (r .answer .number) (r .answer .place))
-  -- AN OUTAGE (A2): no survey adds a missing hour to a line; and where its surveys all lie in measured hours, its days after step 1, and so its hours, its counts
-  -- and its first missing hour, are those of document 01 alone (read `daysAlone`)
-  pub outage : (x : Line) → (lacking (daysAfter x) ≤ lacking (x .days)) × (allMeasured (x .days) (surveyed x) ≡ true → daysAfter x ≡ daysAlone x)
+  -- AN OUTAGE (A2): no survey adds a missing hour to a line; and where no survey of an accepted line lies in a missing hour, its days after step 1, and so its
+  -- hours, its counts and its first missing hour, are those of document 01 alone (read `daysAlone`)
+  pub outage : (x : Line) → lacking (daysAfter x) ≤ lacking (x .days)
+  pub elsewhere : (file : List ℕ) (later earlier : List Line) (x : Line) → outcome file ≡ Accepted (later ++ (x ∷ earlier)) → noneMissing (x .days) (surveyed x) ≡ true
+      → daysAfter x ≡ daysAlone x
   -- every accepted reading is exactly a whole multiple of 2^-149, and none but minus zero is negative
   pub readings : (bits : ℕ) → allowed (reading bits) ≡ true → (sign : Bool) × HasValue (reading bits) sign (exact (reading bits)) (2 ^ 149) × (sign ≡ true → exact (reading bits) ≡ 0)
   -- THE PANEL, from the empty one over any list of hours

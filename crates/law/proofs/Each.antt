@@ -20,6 +20,11 @@ module _ {A : Type 0} where
     each-joined f i zero e = each-none
     each-joined f i (suc n) e = each-append (e i (omega arith)) (each-joined f (suc i) n (λ k l. e k (omega arith)))
 
+    -- a claim that follows from it
+    pub each-so : (Q : A → Type 0) → ((x : A) → P x → Q x) → {xs : List A} → Each P xs → Each Q xs
+    each-so Q f each-none = each-none
+    each-so Q f (each-more {x} p ps) = each-more (f x p) (each-so Q f ps)
+
     -- one in the midst of others
     each-mid : (before behind : List A) (x : A) → Each P (before ++ (x ∷ behind)) → P x
     each-mid [] behind x (each-more p ps) = p

@@ -4,7 +4,7 @@ use crate::marked::put_cell;
 use crate::product;
 use rules::Survey;
 ghost use mathlib.Core.Path.{_≡_};
-ghost use Rattle.line.specs.Put.{inTables, beats, SurveyPut, PlantPut};
+ghost use Rattle.line.specs.Put.{inTables, nothing, beats, SurveyPut, PlantPut};
 
 // What a survey adds to those of a line: one hour and its c x l, or nothing; and how many missing hours fewer the line has.
 pub struct Weighed {
@@ -49,6 +49,17 @@ fn is_flagged(flags: &[u32; 2208], hour: u16) -> bool
     flags[h] == 1
 }
 
+// What a beaten survey adds.
+fn none_added() -> Weighed
+    ensures { λ r. ⌜ r ≡ nothing ⌝ }
+{
+    Weighed {
+        count: 0,
+        weight: 0,
+        found: 0,
+    }
+}
+
 // "Enforcement beats plant at one hour": there a plant survey changes nothing and weighs nothing.
 pub fn put_plant(
     t: Survey,
@@ -63,11 +74,7 @@ pub fn put_plant(
         (inTables (now (measured .exit)) (now (states .exit)) (now (conc .exit)) (now (flow .exit))) r ⌝ }
 {
     if is_flagged(flags, t.hour) {
-        return Weighed {
-            count: 0,
-            weight: 0,
-            found: 0,
-        };
+        return none_added();
     }
     put_survey(t, runs, measured, states, conc, flow)
 }

@@ -1,15 +1,14 @@
 -- Step 1 by document 01 alone, before A2: "a survey in a missing hour changes nothing there". A law sets it beside `daysAfter`.
 use Prim.Native.Nat.{ℕ, _/_, _%_}
-use mathlib.Core.Bool.{Bool, true, _&&_}
+use mathlib.Core.Bool.{Bool, true, not, _&&_}
 use mathlib.Core.List.{List, [], _∷_}
-use lib.ListN.{getD}
 use lib.Dec.{eqb}
 use Rattle.law.specs.Numbers.{hoursOfDay}
 use Rattle.law.specs.Words.{pick}
 use Rattle.rules.specs.declared.Pair.{Pair}
 use Rattle.rules.specs.declared.Survey.{Survey}
 use Rattle.rules.specs.Records.{Day}
-use Rattle.rules.specs.Hours.{bit, measuredMasks}
+use Rattle.rules.specs.Hours.{bit, runMasks, measuredMasks, lacksAt}
 use Rattle.rules.specs.Lines.{Line, surveyed, withPair, atDay}
 
 -- "a survey replaces both readings of a measured hour", and changes nothing in another
@@ -25,7 +24,7 @@ replacedAlone (s ∷ ss) days = atDay (s .hour / hoursOfDay) (replacedOnly (s .h
 unfoldable pub daysAlone : Line → List Day
 daysAlone x = replacedAlone (surveyed x) (x .days)
 
--- every survey of a list lies in a measured hour of the days; 5 refuses one in a stopped hour, so any other lies in a missing one
-unfoldable pub allMeasured : List Day → List Survey → Bool
-allMeasured days [] = true
-allMeasured days (s ∷ ss) = eqb (bit (s .hour % hoursOfDay) (getD (measuredMasks days) (s .hour / hoursOfDay) 0)) 1 && allMeasured days ss
+-- no survey of a list lies in a missing hour of the days
+unfoldable pub noneMissing : List Day → List Survey → Bool
+noneMissing days [] = true
+noneMissing days (s ∷ ss) = not (lacksAt (runMasks days) (measuredMasks days) (s .hour)) && noneMissing days ss

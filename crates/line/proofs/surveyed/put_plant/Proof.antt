@@ -7,8 +7,8 @@ use Rattle.line.proofs.surveyed.put_plant.Tie as tie
 
 returns : tie.Need-returns
 returns c =
-    let on = sym (c .before .is-flagged .ensures) ∙ c .if1 .taken in
-    record { weighs = pick-true _ _ _ _ on refl; tables = pick-true _ _ _ _ on refl }
+    let on = sym (c .before .before .is-flagged .ensures) ∙ c .before .if1 .taken in
+    record { weighs = pick-true _ _ _ _ on (c .none-added .ensures); tables = pick-true _ _ _ _ on refl }
 
 returns-2 : tie.Need-returns-2
 returns-2 c =
@@ -22,6 +22,7 @@ pub put-plant-spec : {M : Type 1} → statement M
 put-plant-spec =
     tie.close
     (tie.spec
+    (λ c κs. search needs)
     (λ c κs. search needs)
     returns
     (λ c κs. search needs)
