@@ -23,16 +23,17 @@ fn judge_entry(entry: Coefficients) -> Fault
     }
 }
 
-// "6, then 7, at the line's end record", for methods 3 and 4.
+// "6, then 7, at the line's end record", for methods 3 and 4. The head is copied out, and only here: else the whole view is laid out in memory at every end.
 fn judge_fuel(v: View) -> Fault
     ensures { λ f. ⌜ f ≡ judgeFuel v ⌝ }
 {
     if crate::line_method(v) <= 2 {
         return FINE;
     }
+    let h = v.head;
     first_of(
         refuse_unless(6, v.batches > 0),
-        judge_entry(tables::coefficients(v.head)),
+        judge_entry(tables::coefficients(h)),
     )
 }
 

@@ -43,7 +43,7 @@ first-of-requires c κs = search needs
 returns-2 : tie.Need-returns-2
 unfolding judgeEntry judgeFuel
 returns-2 c =
-    high _ _ (c .before .before .before .before .before .before .line-method .ensures) _ _ _ (c .before .before .before .before .before .if1 .left)
+    high _ _ (c .before .before .before .before .before .before .before .line-method .ensures) _ _ _ (c .before .before .before .before .before .before .if1 .left)
     (first-parts _ _ _ _ _ (c .first-of .ensures) (c .before .before .before .refuse-unless .ensures) (c .before .judge-entry .ensures ∙ ap (λ (p : OnPaper). blamed (p .number)) (c .before .before .coefficients .ensures))
     ∙ first-need _ _ _ _ refl)
 
