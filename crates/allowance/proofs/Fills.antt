@@ -9,7 +9,7 @@ use lib.Dec.{leb}
 use Rattle.law.specs.Numbers.{longWindow}
 use Rattle.law.specs.Words.{pick, largest, halvesUp}
 use Rattle.law.proofs.Halves.{Within, within-times, spread, times-max, halves-within, hour-off}
-use Rattle.rules.specs.Fill.{Values, cs, ls, window, short, long, fill, fillBoth, meanUp, same, filled}
+use Rattle.rules.specs.Fill.{Values, zeroes, cs, ls, window, short, long, fill, fillBoth, meanUp, same, filled, unfilled}
 use Rattle.rules.specs.Grams.{amount}
 use Rattle.allowance.specs.Exact.{twice, twiceMean, exactFill}
 use Rattle.allowance.specs.Allowance.{ofFilled, ofFill}
@@ -89,3 +89,8 @@ module _ (P : ℕ) where
       let e = exactFill g y x in
       let w = both-alike (Half P) Whole meanUp twiceMean same twice (omega (arith, mul-zero P)) half-max (omega (arith, mul-zero P)) half-whole mean-whole g h k in
       subst (λ (d : ℕ). Off P d (amount e) c) (omega arith) (hour-off P 2 (c .c) (c .l) (e .c) (e .l) (w .0) (w .1))
+
+  -- of water nothing is filled, and nothing allowed for it
+  pub unfilled-off : FillsOff P unfilled unfilled (λ gap before after. 0)
+  unfolding unfilled zeroes amount
+  unfilled-off g b a y x h k = omega (arith, mul-zero (P * P), mul-zero (4 * (P * P)))

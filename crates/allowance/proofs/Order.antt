@@ -1,20 +1,20 @@
 -- A reading at least as large never lowers a value, a fill, the sum or the grams, for every divisor of a gram and every fill rule that rises. Assumes nothing.
-use mathlib.Core.Path.{subst}
+use mathlib.Core.Path.{_≡_, refl, subst, subst₂}
 use Prim.Native.Nat.{ℕ, _+_, _*_, _<_, _≤_}
 use native.Mathlib.Nat.{le-refl, mul-le-mul, mul-pos}
 use native.Mathlib.Omega.{arith}
 use mathlib.Core.List.{List, [], Forall₂, Forall₂·nil}
 use lib.ListN.{length}
-use Rattle.law.specs.Numbers.{perGram}
 use Rattle.law.specs.Words.{sumOf, halvesUp}
 use Rattle.law.proofs.Halves.{halves-mono}
 use Rattle.reading.specs.Reading.{reading, exact}
 use Rattle.reading.proofs.Laws.{in-order}
 use Rattle.rules.specs.declared.Pair.{Pair}
 use Rattle.rules.specs.Slots.{Slot, entries}
-use Rattle.rules.specs.Hours.{running}
-use Rattle.rules.specs.Lines.{Line, hours, surveyed}
-use Rattle.rules.specs.Fill.{Values, zeroes, meanUp, same, filled}
+use Rattle.rules.specs.Lines.{StackLine, hours}
+use Rattle.rules.specs.Outfalls.{OutfallLine, outfallDays}
+use Rattle.rules.specs.Measured.{Measured, ofStack, ofOutfall}
+use Rattle.rules.specs.Fill.{Values, zeroes, meanUp, same, filled, unfilled}
 use Rattle.rules.specs.Grams.{valuesOf, slots, hourly, amount, automatic, surveyValues, manual}
 use Rattle.rules.proofs.Alike.{Alike, entries-alike, slots-alike, length-alike}
 use Rattle.allowance.proofs.Sums.{sum-mono}
@@ -60,6 +60,10 @@ filled-rises-each g b a y x h k =
 pub filled-rises : Rises filled
 filled-rises g b a y x h k = amount-mono (filled g b a) (filled g y x) (filled-rises-each g b a y x h k)
 
+pub unfilled-rises : Rises unfilled
+unfolding unfilled
+unfilled-rises g b a y x h k = le-refl _
+
 -- ---- every hour of a line
 pub entries-mono : (rule : Rule Values) → RisesEach rule → {s t : List (Slot Values)} → Forall₂ (Alike Below) s t
     → Forall₂ Below (entries (λ v. v) rule zeroes [] s) (entries (λ v. v) rule zeroes [] t)
@@ -77,16 +81,30 @@ module _ (rule : Rule Values) (rises : Rises rule) where
   grams-mono U u {s} {t} h =
       halves-mono (sumOf amount (entries (λ v. v) rule zeroes [] s)) (sumOf amount (entries (λ v. v) rule zeroes [] t)) U u (total-mono h)
 
--- ---- a line: its hours after step 1, or its surveys, have readings at most those of another's
-pub automatic-mono : (x y : Line) → Forall₂ (Alike AtMost) (hours x) (hours y) → automatic x ≤ automatic y
+-- ---- a line of either kind: its hours or days after step 1, or its surveys, have readings at most those of another's, in the same units of a gram
+pub automatic-mono : (rule : Rule Values) → Rises rule → (m n : Measured) → 0 < m .units → m .units ≡ n .units → Forall₂ (Alike AtMost) (m .after) (n .after)
+    → automatic rule m ≤ automatic rule n
 unfolding automatic hourly slots
-automatic-mono x y h = grams-mono filled filled-rises perGram (omega arith) (slots-alike Below valuesOf valuesOf values-mono h)
+automatic-mono rule rises m n u e h =
+    subst (λ (U : ℕ). automatic rule m ≤ halvesUp (sumOf amount (hourly rule n)) U) e
+    (grams-mono rule rises (m .units) u (slots-alike Below valuesOf valuesOf values-mono h))
 
-pub manual-mono : (x y : Line) → 0 < length (surveyed x) → running (x .days) ≤ running (y .days) → Forall₂ (λ s t. AtMost (s .pair) (t .pair)) (surveyed x) (surveyed y) → manual x ≤ manual y
+pub manual-mono : (m n : Measured) → 0 < m .units → m .units ≡ n .units → 0 < length (m .surveys) → m .ran ≤ n .ran
+    → Forall₂ (λ s t. AtMost (s .pair) (t .pair)) (m .surveys) (n .surveys) → manual m ≤ manual n
 unfolding manual surveyValues
-manual-mono x y n r h =
-    let a = sumOf (λ s. amount (surveyValues s)) (surveyed x) * running (x .days) in
-    let b = sumOf (λ s. amount (surveyValues s)) (surveyed y) * running (y .days) in
-    subst (λ (i : ℕ). halvesUp a (length (surveyed x) * perGram) ≤ halvesUp b (i * perGram)) (length-alike h)
-    (halves-mono a b (length (surveyed x) * perGram) (mul-pos n (omega arith))
-    (mul-le-mul (sum-mono (λ s. amount (surveyValues s)) (λ s. amount (surveyValues s)) (λ s t z. amount-mono (surveyValues s) (surveyValues t) (values-mono (s .pair) (t .pair) z)) h) r))
+manual-mono m n u e some r h =
+    let a = sumOf (λ s. amount (surveyValues s)) (m .surveys) * m .ran in
+    let b = sumOf (λ s. amount (surveyValues s)) (n .surveys) * n .ran in
+    subst₂ (λ (i U : ℕ). halvesUp a (length (m .surveys) * m .units) ≤ halvesUp b (i * U)) (length-alike h) e
+    (halves-mono a b (length (m .surveys) * m .units) (mul-pos some u)
+    (mul-le-mul
+    (sum-mono (λ s. amount (surveyValues s)) (λ s. amount (surveyValues s)) (λ s t z. amount-mono (surveyValues s) (surveyValues t) (values-mono (s .pair) (t .pair) z)) h)
+    r))
+
+-- ---- in air and in water: the units of two lines are the same
+pub stack-mono : (x y : StackLine) → Forall₂ (Alike AtMost) (hours x) (hours y) → automatic filled (ofStack x) ≤ automatic filled (ofStack y)
+stack-mono x y h = automatic-mono filled filled-rises (ofStack x) (ofStack y) (omega arith) refl h
+
+pub outfall-mono : (x y : OutfallLine) → Forall₂ (Alike AtMost) (outfallDays x) (outfallDays y)
+    → automatic unfilled (ofOutfall x) ≤ automatic unfilled (ofOutfall y)
+outfall-mono x y h = automatic-mono unfilled unfilled-rises (ofOutfall x) (ofOutfall y) (omega arith) refl h

@@ -1,4 +1,4 @@
--- "X is the exact figure in units of 0.01 mg": the same method without rounding, on the readings as stored, multiplied out to whole numbers.
+-- "X is the exact figure in units of 0.01 mg", of water "10 mg": the same method without rounding, on the readings as stored, multiplied out to whole numbers.
 use Prim.Native.Nat.{ℕ, _+_, _*_}
 use mathlib.Core.List.{List, [], map}
 use Rattle.law.specs.Words.{sumOf}
@@ -6,8 +6,7 @@ use Rattle.reading.specs.Reading.{reading, exact}
 use Rattle.rules.specs.declared.Pair.{Pair}
 use Rattle.rules.specs.declared.Survey.{Survey}
 use Rattle.rules.specs.Slots.{mapSlot, entries}
-use Rattle.rules.specs.Hours.{running}
-use Rattle.rules.specs.Lines.{Line, hours, surveyed}
+use Rattle.rules.specs.Measured.{Measured}
 use Rattle.rules.specs.Fill.{Values, zeroes, fillBoth}
 use Rattle.rules.specs.Grams.{amount}
 
@@ -32,18 +31,18 @@ twiceBoth v = record { c = twice (v .c); l = twice (v .l) }
 unfoldable pub exactFill : ℕ → List Values → List Values → Values
 exactFill gap before after = fillBoth twiceMean twice gap before after
 
--- the hours after step 1, so that a replaced hour has the survey's exact reading, each filled exactly
-unfoldable pub exactHourly : Line → List Values
-exactHourly x = entries twiceBoth exactFill zeroes [] (map (mapSlot exactOf) (hours x))
+-- the hours or days after step 1, so that a replaced one has the survey's exact reading, missing ones by an exact rule
+unfoldable pub exactHourly : (ℕ → List Values → List Values → Values) → Measured → List Values
+exactHourly rule m = entries twiceBoth rule zeroes [] (map (mapSlot exactOf) (m .after))
 
 -- method 1: X times 2^300
-unfoldable pub exactAutomatic : Line → ℕ
-exactAutomatic x = sumOf amount (exactHourly x)
+unfoldable pub exactAutomatic : (ℕ → List Values → List Values → Values) → Measured → ℕ
+exactAutomatic rule m = sumOf amount (exactHourly rule m)
 
 -- c and l of a survey, exact
 unfoldable pub exactSurvey : Survey → Values
 exactSurvey s = exactOf (s .pair)
 
 -- method 2: X times n times 2^298
-unfoldable pub exactManual : Line → ℕ
-exactManual x = sumOf (λ s. amount (exactSurvey s)) (surveyed x) * running (x .days)
+unfoldable pub exactManual : Measured → ℕ
+exactManual m = sumOf (λ s. amount (exactSurvey s)) (m .surveys) * m .ran

@@ -12,7 +12,7 @@ use Rattle.law.specs.Words.{need}
 use Rattle.law.proofs.Tests.{need-case}
 use Rattle.rules.specs.declared.Answer.{Answer}
 use Rattle.rules.specs.declared.Fault.{Fault}
-use Rattle.rules.specs.Lines.{Line}
+use Rattle.rules.specs.Outfalls.{Line}
 use Rattle.rules.specs.Row.{rowsOf}
 use Rattle.rules.specs.Judge.{refuse}
 use Rattle.rules.specs.Walk.{Outcome, Refused, Accepted, outcome}

@@ -15,7 +15,7 @@ use Rattle.rules.specs.declared.Head.{Head}
 use Rattle.rules.specs.declared.Record.{Record}
 use Rattle.rules.specs.declared.Record.the-variants.{Bad, OfHead, OfDay, OfEnforcement, OfPlant, OfBatch, OfEnd}
 use Rattle.rules.specs.Records.{Placed, recordIn, recordsOf}
-use Rattle.rules.specs.Lines.{Line}
+use Rattle.rules.specs.Outfalls.{Line, OfStack, headOfLine}
 use Rattle.rules.specs.Judge.{refuse, first, placeHead, judgeRecord}
 use Rattle.rules.specs.Walk.{Stand, Between, Inside, viewOf, runsOf, begun, withDay, withEnforcement, withPlant, withBatch, taken, takenBetween, takenInside, Outcome, Refused, Accepted, ended, faultOf, walk, outcome}
 use Rattle.answers.proofs.Walks.{passed-record}
@@ -23,11 +23,11 @@ use Rattle.answers.specs.Heads.{headsWith, headsIn, headsOf}
 
 -- the head of a line, as a list of one
 unfoldable opener : Line → List Head
-opener x = x .head ∷ []
+opener x = headOfLine x ∷ []
 
 standing : Stand → List Head
 standing (Between done) = written opener done
-standing (Inside x done) = written opener (x ∷ done)
+standing (Inside x done) = written opener (OfStack x ∷ done)
 
 linesIn : Outcome → List Line
 linesIn (Refused f) = []
@@ -43,7 +43,7 @@ false-true e = subst (λ (b : Bool). T (not b)) e tt
 -- a record that is not refused, taken in
 head-on : (stand : Stand) (bytes : List ℕ) (r : Record) (more : List Head) → judgeRecord (viewOf stand) (runsOf stand) r .number ≡ 0
     → standing (taken stand bytes r) ++ more ≡ standing stand ++ headsWith r more
-unfolding standing written opener taken takenBetween takenInside headsWith begun withDay withEnforcement withPlant withBatch viewOf judgeRecord placeHead first refuse need needAll
+unfolding standing written opener headOfLine taken takenBetween takenInside headsWith begun withDay withEnforcement withPlant withBatch viewOf judgeRecord placeHead first refuse need needAll
 head-on (Between done) bytes Bad more z = refl
 head-on (Between done) bytes (OfHead h) more z = append-assoc (written opener done) (h ∷ []) more
 head-on (Between done) bytes (OfDay m) more z = refl
@@ -73,7 +73,7 @@ unfolding outcome standing written
 file-heads file lines o = walk-heads file (recordsOf file) (Between []) lines o
 
 pub head-at : (file : List ℕ) (lines : List Line) → outcome file ≡ Accepted lines → (d : Line) (other : Head) (i : ℕ) → i < length lines
-    → getD (headsOf file) i other ≡ getD lines (length lines - 1 - i) d .head
+    → getD (headsOf file) i other ≡ headOfLine (getD lines (length lines - 1 - i) d)
 unfolding opener
 head-at file lines o d other i l =
     let e = block-at opener 1 (λ x. refl) d lines [] i l in

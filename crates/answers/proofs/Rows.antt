@@ -6,13 +6,14 @@ use native.Mathlib.Omega.{arith}
 use lib.ListN.{length, take, drop, getD}
 use lib.Seq.{getD-take, getD-drop}
 use Rattle.law.proofs.Newest.{written, written-long, block-behind, block-at}
-use Rattle.rules.specs.Lines.{Line}
-use Rattle.rules.specs.Grams.{grams}
-use Rattle.rules.specs.Row.{rowOf, rowsOf}
+use Rattle.rules.specs.Outfalls.{Line, OfStack, OfOutfall}
+use Rattle.rules.specs.Grams.{gramsOf}
+use Rattle.rules.specs.Row.{stackRow, outfallRow, rowOf, rowsOf}
 
 row-long : (x : Line) → length (rowOf x) ≡ 7
-unfolding rowOf
-row-long x = refl
+unfolding rowOf stackRow outfallRow
+row-long (OfStack x) = refl
+row-long (OfOutfall x) = refl
 
 rows-written : (lines : List Line) → rowsOf lines ≡ written rowOf lines
 unfolding rowsOf written
@@ -31,6 +32,11 @@ pub row-of : (d : Line) (lines : List Line) (rest : List ℕ) (i : ℕ) → i < 
 row-of d lines rest i l = ap (λ (cells : List ℕ). take 7 (drop (7 * i) (cells ++ rest))) (rows-written lines) ∙ block-at rowOf 7 row-long d lines rest i l
 
 -- the fourth cell of a row is the line's grams
-pub fourth : (rows : List ℕ) (i : ℕ) (x : Line) → take 7 (drop (7 * i) rows) ≡ rowOf x → getD rows (7 * i + 3) 0 ≡ grams x
-unfolding rowOf
-fourth rows i x e = sym (getD-drop (7 * i) rows 3 0) ∙ sym (getD-take 7 (drop (7 * i) rows) 3 0 (omega arith)) ∙ ap (λ (row : List ℕ). getD row 3 0) e
+fourth-in : (x : Line) → getD (rowOf x) 3 0 ≡ gramsOf x
+unfolding rowOf stackRow outfallRow gramsOf
+fourth-in (OfStack x) = refl
+fourth-in (OfOutfall x) = refl
+
+pub fourth : (rows : List ℕ) (i : ℕ) (x : Line) → take 7 (drop (7 * i) rows) ≡ rowOf x → getD rows (7 * i + 3) 0 ≡ gramsOf x
+fourth rows i x e =
+    sym (getD-drop (7 * i) rows 3 0) ∙ sym (getD-take 7 (drop (7 * i) rows) 3 0 (omega arith)) ∙ ap (λ (row : List ℕ). getD row 3 0) e ∙ fourth-in x

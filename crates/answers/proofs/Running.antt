@@ -20,7 +20,8 @@ use Rattle.rules.specs.declared.Record.{Record}
 use Rattle.rules.specs.declared.Record.the-variants.{Bad, OfHead, OfDay, OfEnforcement, OfPlant, OfBatch, OfEnd}
 use Rattle.rules.specs.Records.{Day, dayOf, Placed, recordIn, recordsOf}
 use Rattle.rules.specs.Hours.{bit, runMasks, runsAt}
-use Rattle.rules.specs.Lines.{Line, surveyed, daysAfter}
+use Rattle.rules.specs.Lines.{StackLine, surveyed, daysAfter}
+use Rattle.rules.specs.Outfalls.{OutfallLine, Line, OfStack, OfOutfall}
 use Rattle.rules.specs.Alone.{noneMissing, daysAlone}
 use Rattle.rules.specs.Judge.{refuse, fine, first, placeEnforcement, placePlant, judgeStopped, judgeSurvey, judgeRecord}
 use Rattle.rules.specs.Walk.{Stand, Between, Inside, viewOf, runsOf, begun, withDay, withEnforcement, withPlant, withBatch, taken, takenBetween, takenInside, Outcome, Refused, Accepted, ended, faultOf, walk, outcome}
@@ -56,12 +57,16 @@ day-more runs more s r =
     eq-eqb _ 1 (ap (bit h) (mask-stays runs more (s .hour / hoursOfDay) h one) ∙ one)
 
 -- ---- where the walk stands
+unfoldable LineRuns : Line → Type 0
+LineRuns (OfStack x) = SurveysRun x
+LineRuns (OfOutfall x) = Unit
+
 unfoldable Runs : Stand → Type 0
-Runs (Between done) = Each SurveysRun done
-Runs (Inside x done) = SurveysRun x × Each SurveysRun done
+Runs (Between done) = Each LineRuns done
+Runs (Inside x done) = SurveysRun x × Each LineRuns done
 
 runs-on : (stand : Stand) (bytes : List ℕ) (r : Record) → Runs stand → judgeRecord (viewOf stand) (runsOf stand) r .number ≡ 0 → Runs (taken stand bytes r)
-unfolding Runs taken takenBetween takenInside judgeRecord runsOf begun withDay withEnforcement withPlant withBatch runMasks
+unfolding Runs LineRuns taken takenBetween takenInside judgeRecord runsOf begun withDay withEnforcement withPlant withBatch runMasks
 runs-on (Between done) bytes Bad k z = k
 runs-on (Between done) bytes (OfHead h) k z = (record { enforcement = each-none; plant = each-none }, k)
 runs-on (Between done) bytes (OfDay m) k z = k
@@ -86,17 +91,17 @@ unfoldable linesIn : Outcome → List Line
 linesIn (Refused f) = []
 linesIn (Accepted lines) = lines
 
-walk-runs : (file : List ℕ) (ps : List Placed) (stand : Stand) → Runs stand → Each SurveysRun (linesIn (walk file ps stand))
+walk-runs : (file : List ℕ) (ps : List Placed) (stand : Stand) → Runs stand → Each LineRuns (linesIn (walk file ps stand))
 unfolding walk ended linesIn Runs
 walk-runs file [] (Between done) k = k
 walk-runs file [] (Inside x done) k = each-none
 walk-runs file (p ∷ more) stand k =
     let r = recordIn (p .bytes) in
-    pick-case (λ (o : Outcome). Each SurveysRun (linesIn o)) (eqb (faultOf stand p .number) 0) (walk file more (taken stand (p .bytes) r)) (Refused (faultOf stand p))
+    pick-case (λ (o : Outcome). Each LineRuns (linesIn o)) (eqb (faultOf stand p .number) 0) (walk file more (taken stand (p .bytes) r)) (Refused (faultOf stand p))
     (λ e. walk-runs file more (taken stand (p .bytes) r) (runs-on stand (p .bytes) r k (passed-record stand p (eqb-true (faultOf stand p .number) 0 e)))) (λ e. each-none)
 
-pub accepted-alone : (file : List ℕ) (later earlier : List Line) (x : Line) → outcome file ≡ Accepted (later ++ (x ∷ earlier)) → noneMissing (x .days) (surveyed x) ≡ true → daysAfter x ≡ daysAlone x
-unfolding outcome linesIn Runs
+pub accepted-alone : (file : List ℕ) (later earlier : List Line) (x : StackLine) → outcome file ≡ Accepted (later ++ (OfStack x ∷ earlier)) → noneMissing (x .days) (surveyed x) ≡ true → daysAfter x ≡ daysAlone x
+unfolding outcome linesIn Runs LineRuns
 accepted-alone file later earlier x o e =
-    let all : Each SurveysRun (linesIn (outcome file)) = walk-runs file (recordsOf file) (Between []) each-none in
-    nothing-else x (each-at SurveysRun (linesIn (outcome file)) later earlier x all (ap linesIn o)) e
+    let all : Each LineRuns (linesIn (outcome file)) = walk-runs file (recordsOf file) (Between []) each-none in
+    nothing-else x (each-at LineRuns (linesIn (outcome file)) later earlier (OfStack x) all (ap linesIn o)) e

@@ -14,7 +14,7 @@ use Rattle.rules.specs.declared.Fault.{Fault}
 use Rattle.rules.specs.declared.Record.{Record}
 use Rattle.rules.specs.declared.Record.the-variants.{Bad, OfHead, OfDay, OfEnforcement, OfPlant, OfBatch, OfEnd}
 use Rattle.rules.specs.Records.{Placed, recordIn, recordsOf}
-use Rattle.rules.specs.Lines.{Line}
+use Rattle.rules.specs.Outfalls.{Line}
 use Rattle.rules.specs.Judge.{refuse, fine, first, placeHead, rangeHead, judgeRecord, judgeReadings, judge}
 use Rattle.rules.proofs.Faults.{first-passed, at-place-number}
 use Rattle.rules.specs.Walk.{Stand, Between, Inside, viewOf, runsOf, taken, takenBetween, takenInside, Outcome, Refused, Accepted, ended, faultOf, walk, outcome}

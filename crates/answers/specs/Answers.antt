@@ -6,7 +6,7 @@ use lib.ListN.{length, drop}
 use Rattle.law.specs.Numbers.{mostLines, rowCells}
 use Rattle.rules.specs.declared.Answer.{Answer}
 use Rattle.rules.specs.declared.Fault.{Fault}
-use Rattle.rules.specs.Lines.{Line}
+use Rattle.rules.specs.Outfalls.{Line}
 use Rattle.rules.specs.Row.{rowsOf}
 use Rattle.rules.specs.Walk.{Refused, Accepted, outcome}
 use Rattle.rules.specs.Account.{refusal, acceptance}

@@ -10,10 +10,10 @@ use lib.Dec.{leb}
 use borrow.Author.Tests.{leb-false}
 use Rattle.law.specs.Numbers.{perGram}
 use Rattle.law.specs.Words.{apart}
-use Rattle.rules.specs.{declared.Head.Head, Lines.Line, Method.method, Grams.grams, Row.rowOf, Walk.Outcome, Walk.Refused, Walk.Accepted, Walk.begun, Walk.noHead, Walk.outcome, Opened.rules}
+use Rattle.rules.specs.{declared.Head.Head, Lines.StackLine, Outfalls.Line, Outfalls.OfStack, Outfalls.OfOutfall, Outfalls.headOfLine, Measured.ofStack, Method.method, Grams.grams, Row.rowOf, Walk.Outcome, Walk.Refused, Walk.Accepted, Walk.begun, Walk.noHead, Walk.outcome, Opened.rules}
 use Rattle.answers.specs.Heads.{headsWith, headsIn, headsOf}
-use Rattle.allowance.specs.Exact.{exactAutomatic}
-use Rattle.allowance.specs.Allowance.{automaticAllowance}
+use Rattle.allowance.specs.Exact.{exactFill, exactAutomatic}
+use Rattle.allowance.specs.Allowance.{inAir, automaticAllowance}
 use Rattle.allowance.specs.Opened.{allowances}
 use Rattle.figures.specs.Example.{example}
 use Rattle.demands.specs.Demands.{Version, Keeps, Taken, Call, Lent, RefusesAll, EveryRowNear}
@@ -36,25 +36,29 @@ high =
     ++ (0 ∷ 128 ∷ 35 ∷ 66 ∷ 8 ∷ 36 ∷ 116 ∷ 73 ∷ [])
     ++ drop 59 example
 
-highLine : Line
-highLine = getD (linesIn (outcome high)) 0 (begun noHead)
+stackOf : Line → StackLine
+stackOf (OfStack x) = x
+stackOf (OfOutfall x) = begun noHead
+
+highLine : StackLine
+highLine = stackOf (getD (linesIn (outcome high)) 0 (OfStack (begun noHead)))
 
 record High : Type 0 where
-  accepted : outcome high ≡ Accepted (highLine ∷ [])
+  accepted : outcome high ≡ Accepted (OfStack highLine ∷ [])
   by : method highLine ≡ 1
-  over : leb (4 * apart (perGram * grams highLine * 2 ^ 300) (exactAutomatic highLine)) ((perGram + automaticAllowance highLine / 2) * 2 ^ 300) ≡ false
+  over : leb (4 * apart (perGram * grams highLine * 2 ^ 300) (exactAutomatic exactFill (ofStack highLine))) ((perGram + automaticAllowance inAir (ofStack highLine) / 2) * 2 ^ 300) ≡ false
 
 high-is : High
-unfolding high highLine linesIn example allowances
+unfolding high highLine stackOf linesIn example allowances
 high-is = record { accepted = refl; by = refl; over = refl }
 
 below-not : (a b : ℕ) → b < a → a ≤ b → ⊥
 below-not a b l h = omega arith
 
 -- half the allowance
-not-half : ((file : List ℕ) (lines : List Line) → outcome file ≡ Accepted lines → (x : Line) → List·Memᴰ x lines → method x ≡ 1
-    → 4 * apart (perGram * grams x * 2 ^ 300) (exactAutomatic x) ≤ (perGram + automaticAllowance x / 2) * 2 ^ 300) → ⊥
-not-half h = below-not _ _ (leb-false _ _ (high-is .over)) (h high (highLine ∷ []) (high-is .accepted) highLine (List·Memᴰ·head refl) (high-is .by))
+not-half : ((file : List ℕ) (lines : List Line) → outcome file ≡ Accepted lines → (x : StackLine) → List·Memᴰ (OfStack x) lines → method x ≡ 1
+    → 4 * apart (perGram * grams x * 2 ^ 300) (exactAutomatic exactFill (ofStack x)) ≤ (perGram + automaticAllowance inAir (ofStack x) / 2) * 2 ^ 300) → ⊥
+not-half h = below-not _ _ (leb-false _ _ (high-is .over)) (h high (OfStack highLine ∷ []) (high-is .accepted) highLine (List·Memᴰ·head refl) (high-is .by))
 
 -- the i-th row as that of the next line: `two` has rows of stacks 1 and 2
 twoLines : List Line
@@ -64,15 +68,15 @@ record Two : Type 0 where
   accepted : outcome two ≡ Accepted twoLines
   some : length twoLines ≡ 2
   nextHead : getD (headsOf two) (0 + 1) noHead .stack ≡ 2
-  firstHead : getD twoLines (length twoLines - 1 - 0) (begun noHead) .head .stack ≡ 1
-  next : rowOf (getD twoLines (length twoLines - 1 - (0 + 1)) (begun noHead)) ≡ 2 ∷ 2 ∷ 1 ∷ 136_500 ∷ 4 ∷ 1 ∷ 3 ∷ []
+  firstHead : headOfLine (getD twoLines (length twoLines - 1 - 0) (OfStack (begun noHead))) .stack ≡ 1
+  next : rowOf (getD twoLines (length twoLines - 1 - (0 + 1)) (OfStack (begun noHead))) ≡ 2 ∷ 2 ∷ 1 ∷ 136_500 ∷ 4 ∷ 1 ∷ 3 ∷ []
 
 two-is : Two
 unfolding two twoLines second linesIn example rules headsIn headsWith
 two-is = record { accepted = refl; some = refl; nextHead = refl; firstHead = refl; next = refl }
 
 not-next : ((v : Version) → Keeps v → (c : Call) → Lent c → v c .answer .number ≡ 0 → (lines : List Line) → outcome (c .file) ≡ Accepted lines → (i : ℕ) → i < length lines
-    → take 7 (drop (7 * i) (v c .rows)) ≡ rowOf (getD lines (length lines - 1 - (i + 1)) (begun noHead))) → ⊥
+    → take 7 (drop (7 * i) (v c .rows)) ≡ rowOf (getD lines (length lines - 1 - (i + 1)) (OfStack (begun noHead)))) → ⊥
 unfolding resultOf
 not-next h =
     let e = h resultOf (λ c l. kept c) (callOf two) (lent-all .ofTwo) (given-all .ofTwo .number) twoLines (two-is .accepted) 0 (omega (arith, two-is .some)) in
@@ -81,7 +85,7 @@ not-next h =
 
 -- the i-th row as that of the line that the next head opens: the second head of `two` is that of stack 2
 not-head : ((file : List ℕ) (lines : List Line) → outcome file ≡ Accepted lines → (i : ℕ) → i < length lines
-    → (other : Head) → getD (headsOf file) (i + 1) other ≡ getD lines (length lines - 1 - i) (begun noHead) .head) → ⊥
+    → (other : Head) → getD (headsOf file) (i + 1) other ≡ headOfLine (getD lines (length lines - 1 - i) (OfStack (begun noHead)))) → ⊥
 not-head h =
     let e = h two twoLines (two-is .accepted) 0 (omega (arith, two-is .some)) noHead in
     differ _ _ _ _ (two-is .nextHead) (two-is .firstHead) (omega arith) (ap (λ (x : Head). x .stack) e)

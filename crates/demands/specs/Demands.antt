@@ -5,7 +5,7 @@ use lib.{ListN.length, ListN.take, ListN.drop, ListN.getD, Ieee.Exact.HasValue}
 use denote.Ref.{RefT, ptr, now}
 use Rattle.law.specs.Numbers.{mostHours, rowCells}
 use Rattle.reading.specs.{declared.Hour.Hour, Reading.reading, Reading.allowed, Reading.exact}
-use Rattle.rules.specs.{declared.Head.Head, declared.Answer.Answer, Hours.lacking, Lines.Line, Lines.surveyed, Lines.daysAfter, Alone.noneMissing, Alone.daysAlone, Grams.grams, Row.rowOf, Walk.Accepted, Walk.outcome, Account.Promise}
+use Rattle.rules.specs.{declared.Head.Head, declared.Answer.Answer, Hours.lacking, Lines.StackLine, Outfalls.Line, Outfalls.OfStack, Outfalls.headOfLine, Lines.surveyed, Lines.daysAfter, Alone.noneMissing, Alone.daysAlone, Grams.gramsOf, Row.rowOf, Walk.Accepted, Walk.outcome, Account.Promise}
 use Rattle.answers.specs.{Heads.headsOf, Places.ofField, Places.PointsAt}
 use Rattle.allowance.specs.Allowance.{Near}
 use Rattle.panel.specs.{Lawful.asTotal, Panel.emptyPanel, Runs.after, Runs.products, Runs.missingHours, Runs.NoneRefused, Runs.NoneBad}
@@ -61,9 +61,9 @@ pub record NoneOfFour (v : Version) : Type 0 where
 pub record RowNear (file : List ℕ) (lines : List Line) (rows : List ℕ) (i : ℕ) : Type 0 where
   pub line : Line
   pub place : (other : Line) → getD lines (length lines - 1 - i) other ≡ line
-  pub opened : (other : Head) → getD (headsOf file) i other ≡ line .head
+  pub opened : (other : Head) → getD (headsOf file) i other ≡ headOfLine line
   pub row : take rowCells (drop (rowCells * i) rows) ≡ rowOf line
-  pub grams : getD rows (rowCells * i + 3) 0 ≡ grams line
+  pub grams : getD rows (rowCells * i + 3) 0 ≡ gramsOf line
   pub near : Near line
 
 -- what demand 3 says of a version: for every call that it accepts, a row for each line of the file, and every row near
@@ -110,8 +110,8 @@ pub record Demands : Type 0 where
   pub places : (c : Call) (r : Result) → Kept c r → (r .answer .number ≡ 3 → ⊥) × (ofField (r .answer .number) ≡ true → PointsAt (c .file) (r .answer .number) (r .answer .place))
   -- AN OUTAGE (A2): no survey adds a missing hour to a line; and where no survey of an accepted line lies in a missing hour, its days after step 1, and so its
   -- hours, its counts and its first missing hour, are those of document 01 alone (read `daysAlone`)
-  pub outage : (x : Line) → lacking (daysAfter x) ≤ lacking (x .days)
-  pub elsewhere : (file : List ℕ) (later earlier : List Line) (x : Line) → outcome file ≡ Accepted (later ++ (x ∷ earlier)) → noneMissing (x .days) (surveyed x) ≡ true
+  pub outage : (x : StackLine) → lacking (daysAfter x) ≤ lacking (x .days)
+  pub elsewhere : (file : List ℕ) (later earlier : List Line) (x : StackLine) → outcome file ≡ Accepted (later ++ (OfStack x ∷ earlier)) → noneMissing (x .days) (surveyed x) ≡ true
       → daysAfter x ≡ daysAlone x
   -- every accepted reading is exactly a whole multiple of 2^-149, and none but minus zero is negative
   pub readings : (bits : ℕ) → allowed (reading bits) ≡ true → (sign : Bool) × HasValue (reading bits) sign (exact (reading bits)) (2 ^ 149) × (sign ≡ true → exact (reading bits) ≡ 0)

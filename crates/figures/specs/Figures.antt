@@ -14,7 +14,7 @@ use Rattle.rules.specs.declared.Pair.{Pair}
 use Rattle.rules.specs.declared.Survey.{Survey}
 use Rattle.rules.specs.declared.Batch.{Batch}
 use Rattle.rules.specs.Hours.{runningOf, missingOf}
-use Rattle.rules.specs.Lines.{Line}
+use Rattle.rules.specs.Lines.{StackLine}
 use Rattle.rules.specs.Method.{isAutomatic, method}
 use Rattle.rules.specs.Tables.{coefficientsOf}
 use Rattle.rules.specs.Grams.{fuelGrams}
@@ -60,7 +60,7 @@ unfoldable pub survey : ℕ → Survey
 survey hour = record { hour = hour; pair = pair 0x41f00000 0x42c80000 }
 
 -- a line of one day with these two masks, 0 read in each measured hour, and with surveys of both kinds
-unfoldable pub dayLine : ℕ → ℕ → List Survey → List Survey → Line
+unfoldable pub dayLine : ℕ → ℕ → List Survey → List Survey → StackLine
 dayLine run measured enforcement plant =
     record {
       head = boiler 2 300;
@@ -71,7 +71,7 @@ dayLine run measured enforcement plant =
     }
 
 -- the method of a line, 1 where it is automatic
-unfoldable pub methodRow : Line → ℕ → Row
+unfoldable pub methodRow : StackLine → ℕ → Row
 methodRow x f = record { computed = Gives (method x); agreed = Gives f }
 
 -- 1,000,000 kg

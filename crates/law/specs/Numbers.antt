@@ -63,6 +63,10 @@ mostAmount = 5_000_000_000_000
 abbrev pub perGram : ℕ
 perGram = 100_000
 
+-- of water 100, of 10 mg each: c in 0.01 mg/L, l in m3 a day
+abbrev pub perGramOfWater : ℕ
+perGramOfWater = 100
+
 -- no line states more grams than this, so that the totals of 48 lines fit
 abbrev pub mostGrams : ℕ
 mostGrams = 20_000_000_000_000

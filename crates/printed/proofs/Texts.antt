@@ -8,7 +8,7 @@ use borrow.Author.Tests.{le-leb}
 use Rattle.law.specs.Numbers.{mostHours, mostCells}
 use Rattle.law.proofs.Tests.{need-le, need-not-le}
 use Rattle.rules.specs.declared.Answer.{Answer}
-use Rattle.rules.specs.Lines.{Line}
+use Rattle.rules.specs.Outfalls.{Line}
 use Rattle.rules.specs.Row.{rowOf, rowsOf}
 use Rattle.rules.specs.Judge.{refuse}
 use Rattle.rules.specs.Walk.{outcome}

@@ -5,7 +5,7 @@ use lib.ListN.{length}
 use lib.Dec.{leb}
 use Rattle.law.specs.Words.{need}
 use Rattle.rules.specs.Judge.{refuse}
-use Rattle.rules.specs.Lines.{Line}
+use Rattle.rules.specs.Outfalls.{Line}
 use Rattle.rules.specs.Row.{rowOf, totalsOf}
 use Rattle.rules.specs.Walk.{Outcome, Refused, Accepted, outcome}
 use Rattle.text.specs.Numbers.{spaced}

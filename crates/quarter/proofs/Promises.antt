@@ -12,7 +12,7 @@ use Rattle.law.specs.Numbers.{mostHours, mostCells}
 use Rattle.law.specs.Words.{need, over}
 use Rattle.law.proofs.Tabled.{table-is}
 use Rattle.rules.specs.declared.Answer.{Answer}
-use Rattle.rules.specs.Lines.{Line}
+use Rattle.rules.specs.Outfalls.{Line}
 use Rattle.rules.specs.Judge.{refuse}
 use Rattle.rules.specs.Row.{rowsOf, cells, concentrationCells, flowCells}
 use Rattle.rules.specs.Account.{refusal, acceptance, rowsFit, workFits, answerFrom, answerOf, rowsFrom, rowsAfter, cellsFrom, workAfter, Promise}

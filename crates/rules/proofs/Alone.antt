@@ -17,7 +17,7 @@ use Rattle.rules.specs.declared.Pair.{Pair}
 use Rattle.rules.specs.declared.Survey.{Survey}
 use Rattle.rules.specs.Records.{Day}
 use Rattle.rules.specs.Hours.{bit, runMasks, measuredMasks, runsAt, lacksAt}
-use Rattle.rules.specs.Lines.{Line, hasSurvey, besides, surveyed, withPair, measuredWith, atDay, putSurvey, putSurveys, daysAfter}
+use Rattle.rules.specs.Lines.{StackLine, hasSurvey, besides, surveyed, withPair, measuredWith, atDay, putSurvey, putSurveys, daysAfter}
 use Rattle.rules.specs.Alone.{replacedOnly, replacedAlone, daysAlone, noneMissing}
 use Rattle.rules.proofs.Days.{length-measured, measured-stay}
 use Rattle.rules.proofs.Surveyed.{bit-most, with-same}
@@ -92,10 +92,10 @@ besides-each P others (s ∷ ss) (each-more p q) =
     pick-case (Each P) (hasSurvey (s .hour) others) (besides others ss) (s ∷ besides others ss) (λ _. besides-each P others ss q) (λ _. each-more p (besides-each P others ss q))
 
 -- a line whose surveys of either kind lie in running hours
-pub record SurveysRun (x : Line) : Type 0 where
+pub record SurveysRun (x : StackLine) : Type 0 where
   pub enforcement : Each (InRunning (runMasks (x .days))) (x .enforcement)
   pub plant : Each (InRunning (runMasks (x .days))) (x .plant)
 
-pub nothing-else : (x : Line) → SurveysRun x → noneMissing (x .days) (surveyed x) ≡ true → daysAfter x ≡ daysAlone x
+pub nothing-else : (x : StackLine) → SurveysRun x → noneMissing (x .days) (surveyed x) ≡ true → daysAfter x ≡ daysAlone x
 unfolding daysAfter daysAlone surveyed
 nothing-else x r e = alone-all (surveyed x) (x .days) (each-append _ (besides-each _ (x .enforcement) (x .plant) (r .plant)) (r .enforcement)) e

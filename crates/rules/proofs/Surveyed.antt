@@ -24,7 +24,7 @@ use Rattle.rules.specs.declared.Survey.{Survey}
 use Rattle.rules.specs.Records.{Day}
 use Rattle.rules.specs.Slots.{Slot, valid, missing, stopped}
 use Rattle.rules.specs.Hours.{bit, pairAt, slotOf, slotsOf, runMasks, measuredMasks, missingOf, running, lacking}
-use Rattle.rules.specs.Lines.{Line, besides, surveyed, withBit, withPair, measuredWith, atDay, putSurvey, putSurveys, daysAfter}
+use Rattle.rules.specs.Lines.{StackLine, besides, surveyed, withBit, withPair, measuredWith, atDay, putSurvey, putSurveys, daysAfter}
 use Rattle.rules.proofs.Days.{length-runs, length-measured, runs-at-day, measured-at-day, slots-at-day}
 
 -- ---- a bit
@@ -215,7 +215,7 @@ unfolding putSurveys
 puts-no-more [] ds = omega arith
 puts-no-more (s ∷ ss) ds = omega (arith, put-no-more s (putSurveys ss ds), puts-no-more ss ds)
 
-module _ (x : Line) where
+module _ (x : StackLine) where
   pub days-length : length (daysAfter x) ≡ length (x .days)
   unfolding daysAfter
   days-length = puts-length (surveyed x) (x .days)

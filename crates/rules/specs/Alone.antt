@@ -9,7 +9,7 @@ use Rattle.rules.specs.declared.Pair.{Pair}
 use Rattle.rules.specs.declared.Survey.{Survey}
 use Rattle.rules.specs.Records.{Day}
 use Rattle.rules.specs.Hours.{bit, runMasks, measuredMasks, lacksAt}
-use Rattle.rules.specs.Lines.{Line, surveyed, withPair, atDay}
+use Rattle.rules.specs.Lines.{StackLine, surveyed, withPair, atDay}
 
 -- "a survey replaces both readings of a measured hour", and changes nothing in another
 unfoldable pub replacedOnly : ℕ → Pair → Day → Day
@@ -21,7 +21,7 @@ replacedAlone [] days = days
 replacedAlone (s ∷ ss) days = atDay (s .hour / hoursOfDay) (replacedOnly (s .hour % hoursOfDay) (s .pair)) (replacedAlone ss days)
 
 -- the days of a line after step 1
-unfoldable pub daysAlone : Line → List Day
+unfoldable pub daysAlone : StackLine → List Day
 daysAlone x = replacedAlone (surveyed x) (x .days)
 
 -- no survey of a list lies in a missing hour of the days

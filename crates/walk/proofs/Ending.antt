@@ -17,12 +17,14 @@ use Rattle.rules.specs.declared.Head.{Head}
 use Rattle.rules.specs.declared.View.{View}
 use Rattle.rules.specs.declared.Coefficients.the-variants.{NoEntry}
 use Rattle.rules.specs.Hours.{running, lacking, runMasks, measuredMasks, firstMissing}
-use Rattle.rules.specs.Lines.{Line, daysAfter, surveys, fuel}
+use Rattle.rules.specs.Lines.{StackLine, daysAfter, hours, surveys, fuel}
+use Rattle.rules.specs.Outfalls.{Line, OfStack, headOfLine}
 use Rattle.rules.specs.Method.{methodOf, method}
 use Rattle.rules.specs.Tables.{coefficientsOf}
 use Rattle.rules.specs.Fill.{Values, cs, ls, filled, unfilled}
-use Rattle.rules.specs.Grams.{hourly, amount, automatic, manual, sulphurOf, grams}
-use Rattle.rules.specs.Row.{rowOf, rowsOf, totalOf, totalsOf, held, cells, concentrationCells, flowCells}
+use Rattle.rules.specs.Grams.{hourly, amount, automatic, manual, sulphurOf, grams, gramsOf}
+use Rattle.rules.specs.Measured.{ofStack}
+use Rattle.rules.specs.Row.{stackRow, rowOf, rowsOf, totalOf, totalsOf, stackHeld, held, cells, concentrationCells, flowCells}
 use Rattle.rules.specs.Walk.{Between, Inside, viewOf}
 use Rattle.rules.proofs.Method.{grams-automatic, grams-manual, grams-fuel}
 use Rattle.answers.proofs.Rows.{rows-long}
@@ -41,12 +43,12 @@ use Rattle.hours.specs.States.{periodStates}
 use Rattle.line.specs.Line.{rowIn}
 use Rattle.rules.specs.Judge.{lineMethod}
 use Rattle.walk.proofs.Views.{survey-count, view-end}
-use Rattle.walk.proofs.Filled.{unfilled-concentrations, unfilled-flows, filled-concentrations, filled-flows, held-length, held-cells}
+use Rattle.walk.proofs.Filled.{hours-long, unfilled-concentrations, unfilled-flows, filled-concentrations, filled-flows, held-length, held-cells}
 use Rattle.walk.proofs.Cleared.{cells-past}
 use Rattle.walk.proofs.Standing.{put-length}
 
 -- the method of the view is the line's
-pub method-is : (x : Line) (done : List Line) → lineMethod (viewOf (Inside x done)) ≡ method x
+pub method-is : (x : StackLine) (done : List Line) → lineMethod (viewOf (Inside x done)) ≡ method x
 unfolding viewOf method surveys
 method-is x done =
     ap₂ (λ (a b : ℕ). methodOf (x .head) (a + b) (running (x .days)) (lacking (daysAfter x))) (survey-count (x .enforcement)) (survey-count (x .plant))
@@ -60,23 +62,23 @@ pub cells-most : {value : ℕ → ℕ} {most : ℕ} {cells : List ℕ} → Cells
 cells-most {value} {most} c h = subst (λ (l : List ℕ). getD l h 0 ≤ most) (sym (c .hold)) (table-most value most (c .within) h (decLt h mostHours))
 
 -- ---- method 1: what is weighed is the sum of the filled hours
-module _ (x : Line) (few : length (x .days) ≤ mostDays) where
-  weighed : periodWeight (length (x .days)) (filledCells (periodStates (runMasks (x .days)) (measuredMasks (daysAfter x)) (length (x .days))) (table (λ h. valuesAt x h .c) mostHours)) (filledCells (periodStates (runMasks (x .days)) (measuredMasks (daysAfter x)) (length (x .days))) (table (λ h. valuesAt x h .l) mostHours))
-      ≡ sumOf amount (hourly filled x)
-  weighed = ap₂ products (filled-concentrations x few .0) (filled-flows x few .0) ∙ sym (products-amounts (hourly filled x))
+module _ (x : StackLine) (few : length (x .days) ≤ mostDays) where
+  weighed : periodWeight (length (x .days)) (filledCells (periodStates (runMasks (x .days)) (measuredMasks (daysAfter x)) (length (x .days))) (table (λ h. valuesAt (hours x) h .c) mostHours)) (filledCells (periodStates (runMasks (x .days)) (measuredMasks (daysAfter x)) (length (x .days))) (table (λ h. valuesAt (hours x) h .l) mostHours))
+      ≡ sumOf amount (hourly filled (ofStack x))
+  weighed = ap₂ products (filled-concentrations x few .0) (filled-flows x few .0) ∙ sym (products-amounts (hourly filled (ofStack x)))
 
 -- ---- what each method leaves
-pub record Closes (x : Line) (conc' flow' : List ℕ) (g : ℕ) : Type 0 where
+pub record Closes (x : StackLine) (conc' flow' : List ℕ) (g : ℕ) : Type 0 where
   pub figure : g ≡ grams x
-  pub concentrations : conc' ≡ cells (cs (held x))
-  pub flows : flow' ≡ cells (ls (held x))
+  pub concentrations : conc' ≡ cells (cs (stackHeld x))
+  pub flows : flow' ≡ cells (ls (stackHeld x))
 
-held-filled : (x : Line) → eqb (method x) 1 ≡ true → held x ≡ hourly filled x
-unfolding held pick
+held-filled : (x : StackLine) → eqb (method x) 1 ≡ true → stackHeld x ≡ hourly filled (ofStack x)
+unfolding stackHeld pick
 held-filled x t = rw t
 
-held-plain : (x : Line) → eqb (method x) 1 ≡ false → held x ≡ hourly unfilled x
-unfolding held pick
+held-plain : (x : StackLine) → eqb (method x) 1 ≡ false → stackHeld x ≡ hourly unfilled (ofStack x)
+unfolding stackHeld pick
 held-plain x t = rw t
 
 -- one cell of a list set, none of it too large
@@ -104,12 +106,15 @@ row-behind n row rows rest out out' w l r e o =
     ∙ ap₂ (λ (s t : List ℕ). rows ++ (s ++ t)) e (drop-drop 7 n rest)
     ∙ sym (append-assoc rows row (drop (n + 7) rest))
 
-module _ (x : Line) (done : List Line) (v : View) (s : Sums) (o : Open) (d : Done)
+module _ (x : StackLine) (done : List Line) (v : View) (s : Sums) (o : Open) (d : Done)
     (k : Kept (Inside x done) v s o d) (all-days : length (x .days) ≡ x .head .days)
     (entry : (method x ≡ 1 → ⊥) → (method x ≡ 2 → ⊥) → coefficientsOf (x .head) ≡ NoEntry → ⊥)
   where
     few : length (x .days) ≤ mostDays
     few = omega (arith, k .books .period)
+
+    few-hours : length (hours x) ≤ mostHours
+    few-hours = omega (arith, few, hours-long x)
 
     abbrev lineStates : List ℕ
     lineStates = periodStates (runMasks (x .days)) (measuredMasks (daysAfter x)) (v .head .days)
@@ -156,8 +161,8 @@ module _ (x : Line) (done : List Line) (v : View) (s : Sums) (o : Open) (d : Don
           let z = eqb-true (method x) 1 t in
           let f = l .automatic (v-method ∙ z) in
           let state : ℕ → List ℕ = λ n. periodStates (runMasks (x .days)) (measuredMasks (daysAfter x)) n in
-          let c : conc' ≡ filledCells (state (length (x .days))) (table (λ h. valuesAt x h .c) mostHours) = f .concentrations ∙ ap₂ (λ (n : ℕ) (t : List ℕ). filledCells (state n) t) v-days (k .books .concentrations .hold) in
-          let w : flow' ≡ filledCells (state (length (x .days))) (table (λ h. valuesAt x h .l) mostHours) = f .flows ∙ ap₂ (λ (n : ℕ) (t : List ℕ). filledCells (state n) t) v-days (k .books .flows .hold) in
+          let c : conc' ≡ filledCells (state (length (x .days))) (table (λ h. valuesAt (hours x) h .c) mostHours) = f .concentrations ∙ ap₂ (λ (n : ℕ) (t : List ℕ). filledCells (state n) t) v-days (k .books .concentrations .hold) in
+          let w : flow' ≡ filledCells (state (length (x .days))) (table (λ h. valuesAt (hours x) h .l) mostHours) = f .flows ∙ ap₂ (λ (n : ℕ) (t : List ℕ). filledCells (state n) t) v-days (k .books .flows .hold) in
           record {
             figure =
                 f .grams ∙ ap (λ (n : ℕ). halvesUp (periodWeight n conc' flow') perGram) v-days
@@ -170,8 +175,8 @@ module _ (x : Line) (done : List Line) (v : View) (s : Sums) (o : Open) (d : Don
           let f = l .manual (v-method ∙ eqb-true (method x) 2 u) in
           record {
             figure = f .2 ∙ rw (k .books .surveys .weighed, k .books .surveys .counted, v-running) refl ∙ sym (grams-manual x (eqb-true (method x) 2 u));
-            concentrations = f .0 ∙ k .books .concentrations .hold ∙ unfilled-concentrations x few ∙ ap (λ (w : List Values). cells (cs w)) (sym (held-plain x t));
-            flows = f .1 ∙ k .books .flows .hold ∙ unfilled-flows x few ∙ ap (λ (w : List Values). cells (ls w)) (sym (held-plain x t));
+            concentrations = f .0 ∙ k .books .concentrations .hold ∙ unfilled-concentrations (ofStack x) few-hours ∙ ap (λ (w : List Values). cells (cs w)) (sym (held-plain x t));
+            flows = f .1 ∙ k .books .flows .hold ∙ unfilled-flows (ofStack x) few-hours ∙ ap (λ (w : List Values). cells (ls w)) (sym (held-plain x t));
           }
       closes-by false false t u =
           let n = eqb-false (method x) 1 t in
@@ -179,8 +184,8 @@ module _ (x : Line) (done : List Line) (v : View) (s : Sums) (o : Open) (d : Don
           let f = l .fuel (λ e. n (sym v-method ∙ e)) (λ e. m (sym v-method ∙ e)) in
           record {
             figure = f .2 ∙ ap gramsIn (fuel-figure ∙ line-figure (x .head) (x .batches) (k .books .fuel .range) (entry n m)) ∙ sym (grams-fuel x n m);
-            concentrations = f .0 ∙ k .books .concentrations .hold ∙ unfilled-concentrations x few ∙ ap (λ (w : List Values). cells (cs w)) (sym (held-plain x t));
-            flows = f .1 ∙ k .books .flows .hold ∙ unfilled-flows x few ∙ ap (λ (w : List Values). cells (ls w)) (sym (held-plain x t));
+            concentrations = f .0 ∙ k .books .concentrations .hold ∙ unfilled-concentrations (ofStack x) few-hours ∙ ap (λ (w : List Values). cells (cs w)) (sym (held-plain x t));
+            flows = f .1 ∙ k .books .flows .hold ∙ unfilled-flows (ofStack x) few-hours ∙ ap (λ (w : List Values). cells (ls w)) (sym (held-plain x t));
           }
 
       closes : Closes x conc' flow' g
@@ -190,19 +195,19 @@ module _ (x : Line) (done : List Line) (v : View) (s : Sums) (o : Open) (d : Don
       shut : Closes x conc' flow' (e .grams)
       shut = closes conc' flow' (e .grams) (e .figures)
 
-      row-is : rowIn v (lineMethod v) (e .grams) lineFirst ≡ rowOf x
-      unfolding rowOf
+      row-is : rowIn v (lineMethod v) (e .grams) lineFirst ≡ stackRow x
+      unfolding stackRow
       row-is =
           row-same _ _ _ _ _ _ _ _ _ _ _ _ _ _ (ap (λ (h : Head). h .stack) v-head) (ap (λ (h : Head). h .pollutant) v-head)
           v-method (shut .figure) v-running v-missing (ap (firstMissing (runMasks (x .days)) (measuredMasks (daysAfter x))) v-days)
 
-      rows-now : d' .rows ≡ (rowsOf done ++ rowOf x) ++ drop (rowCells * suc (length done)) noRows
+      rows-now : d' .rows ≡ (rowsOf done ++ stackRow x) ++ drop (rowCells * suc (length done)) noRows
       rows-now =
           let n : rowCells * length done + rowCells ≡ rowCells * suc (length done) = omega arith in
           let w : ℕ → ℕ = λ i. getD (rowIn v (lineMethod v) (e .grams) lineFirst) i 0 in
-          row-behind (rowCells * length done) (rowOf x) (rowsOf done) noRows (d .rows) (d' .rows) w (rows-long done) (k .done .rows) (seven _ _ _ _ _ _ _ ∙ row-is)
+          row-behind (rowCells * length done) (stackRow x) (rowsOf done) noRows (d .rows) (d' .rows) w (rows-long done) (k .done .rows) (seven _ _ _ _ _ _ _ ∙ row-is)
           (e .rowsNow ∙ ap (λ (i : ℕ). putFrom w rowCells (rowCells * i) (d .rows)) v-lines)
-          ∙ ap (λ (i : ℕ). (rowsOf done ++ rowOf x) ++ drop i noRows) n
+          ∙ ap (λ (i : ℕ). (rowsOf done ++ stackRow x) ++ drop i noRows) n
 
       -- the totals of the lines done, in cells
       total-at : (i : ℕ) → i < totalCells → getD (d .totals) i 0 ≡ totalOf (i + 1) done
@@ -215,30 +220,30 @@ module _ (x : Line) (done : List Line) (v : View) (s : Sums) (o : Open) (d : Don
       own-less : own < totalCells
       own-less = omega (arith, v-pollutant, k .books .pollutant)
 
-      own-total : e .grams + getD (d .totals) own 0 ≡ totalOf (own + 1) (x ∷ done)
-      unfolding totalOf sumOf need
+      own-total : e .grams + getD (d .totals) own 0 ≡ totalOf (own + 1) (OfStack x ∷ done)
+      unfolding totalOf sumOf need headOfLine gramsOf
       own-total =
           let n : x .head .pollutant ≡ own + 1 = omega (arith, v-pollutant, k .books .pollutant) in
           ap₂ (λ (i j : ℕ). i + j) (shut .figure) (total-at own own-less) ∙ rw (eq-eqb (x .head .pollutant) (own + 1) n)
 
-      other-total : (i : ℕ) → (i ≡ own → ⊥) → totalOf (i + 1) (x ∷ done) ≡ totalOf (i + 1) done
-      unfolding totalOf sumOf need
+      other-total : (i : ℕ) → (i ≡ own → ⊥) → totalOf (i + 1) (OfStack x ∷ done) ≡ totalOf (i + 1) done
+      unfolding totalOf sumOf need headOfLine gramsOf
       other-total i n = rw (ne-eqb (x .head .pollutant) (i + 1) (λ q. n (omega (arith, q, v-pollutant, k .books .pollutant)))) (zero-add _)
 
-      totals-now : d' .totals ≡ totalsOf (x ∷ done)
+      totals-now : d' .totals ≡ totalsOf (OfStack x ∷ done)
       unfolding totalsOf
       totals-now =
           e .totalsNow
           ∙ ap (λ (t : List ℕ). set t own (e .grams + getD (d .totals) own 0)) (k .done .totals)
-          ∙ table-set (λ i. totalOf (i + 1) done) (λ i. totalOf (i + 1) (x ∷ done)) totalCells own (e .grams + getD (d .totals) own 0) 0 own-less (sym own-total) (λ i l. other-total i)
+          ∙ table-set (λ i. totalOf (i + 1) done) (λ i. totalOf (i + 1) (OfStack x ∷ done)) totalCells own (e .grams + getD (d .totals) own 0) 0 own-less (sym own-total) (λ i l. other-total i)
 
       total-most : (i : ℕ) → getD (d' .totals) i 0 ≤ suc (length done) * mostGrams
       total-most i =
           subst (λ (t : List ℕ). getD t i 0 ≤ suc (length done) * mostGrams) (sym (e .totalsNow))
           (set-most (d .totals) own (e .grams + getD (d .totals) own 0) (suc (length done) * mostGrams) (λ j. omega (arith, k .done .most j)) (omega (arith, k .done .most own, e .small)) i)
 
-      pub kept-end : Kept (Between (x ∷ done)) (r .view) (r .sums) (inOpen (o .runs) (o .measured) (o .states) (o .flags) conc' flow') d'
-      unfolding rowsOf concentrationCells flowCells cs ls
+      pub kept-end : Kept (Between (OfStack x ∷ done)) (r .view) (r .sums) (inOpen (o .runs) (o .measured) (o .states) (o .flags) conc' flow') d'
+      unfolding rowsOf rowOf held concentrationCells flowCells cs ls
       kept-end =
           let c = shut .concentrations in
           let l = shut .flows in
@@ -268,7 +273,7 @@ module _ (x : Line) (done : List Line) (v : View) (s : Sums) (o : Open) (d : Don
                   flowHeld = l;
                   usedMost = omega (arith, used, k .books .period);
                   flagsPast = λ h m. k .books .surveys .past h (omega (arith, used, m));
-                  concPast = λ h m. ap (λ (t : List ℕ). getD t h 0) c ∙ cells-past (map (λ w. w .c) (held x)) (r .sums .used) h (omega (arith, used, k .books .days, length-map (held x) (λ w. w .c), held-length x)) m;
-                  flowPast = λ h m. ap (λ (t : List ℕ). getD t h 0) l ∙ cells-past (map (λ w. w .l) (held x)) (r .sums .used) h (omega (arith, used, k .books .days, length-map (held x) (λ w. w .l), held-length x)) m;
+                  concPast = λ h m. ap (λ (t : List ℕ). getD t h 0) c ∙ cells-past (map (λ w. w .c) (stackHeld x)) (r .sums .used) h (omega (arith, used, k .books .days, length-map (stackHeld x) (λ w. w .c), held-length x)) m;
+                  flowPast = λ h m. ap (λ (t : List ℕ). getD t h 0) l ∙ cells-past (map (λ w. w .l) (stackHeld x)) (r .sums .used) h (omega (arith, used, k .books .days, length-map (stackHeld x) (λ w. w .l), held-length x)) m;
                 };
           }

@@ -20,7 +20,8 @@ use Rattle.rules.specs.declared.View.{View}
 use Rattle.rules.specs.Records.{Day, masksOf, dayOf}
 use Rattle.rules.specs.Slots.{valid, missing, stopped}
 use Rattle.rules.specs.Hours.{bit, pairAt, slotOf, lacking}
-use Rattle.rules.specs.Lines.{Line, hasSurvey, daysAfter, surveys, fuel}
+use Rattle.rules.specs.Lines.{StackLine, hasSurvey, daysAfter, surveys, fuel}
+use Rattle.rules.specs.Outfalls.{Line, OfStack}
 use Rattle.hours.specs.Marks.{foundBy}
 use Rattle.rules.specs.Fill.{Values, zeroes}
 use Rattle.rules.specs.Grams.{valuesOf}
@@ -41,7 +42,7 @@ use Rattle.walk.proofs.Views.{view-head, view-day, view-enforcement, vi
 use Rattle.walk.proofs.Steps.{begun-books, day-books, enforcement-books, enforcement-lacking, plant-books, plant-lacking, days-beaten, beaten-books, batch-books}
 
 -- the same books under other names
-books-as : (x : Line) {s t : Sums} {o p : Open} → LineBooks x s o → t ≡ s → p ≡ o → LineBooks x t p
+books-as : (x : StackLine) {s t : Sums} {o p : Open} → LineBooks x s o → t ≡ s → p ≡ o → LineBooks x t p
 books-as x k a b = rw (a, b) k
 
 open-is : (a b c e f g a' b' c' e' f' g' : List ℕ) → a ≡ a' → b ≡ b' → c ≡ c' → e ≡ e' → f ≡ f' → g ≡ g' → inOpen a b c e f g ≡ inOpen a' b' c' e' f' g'
@@ -80,7 +81,7 @@ kept-head done v s h o d flags' conc' flow' r k days p room t =
     }
 
 -- ---- a record of the open line: the lines that are done stay
-kept-line : (x y : Line) (done : List Line) {v v' : View} {s s' : Sums} {o o' : Open} {d : Done} → Kept (Inside x done) v s o d → v' ≡ viewOf (Inside y done) → Long o' → LineBooks y s' o'
+kept-line : (x y : StackLine) (done : List Line) {v v' : View} {s s' : Sums} {o o' : Open} {d : Done} → Kept (Inside x done) v s o d → v' ≡ viewOf (Inside y done) → Long o' → LineBooks y s' o'
     → Kept (Inside y done) v' s' o' d
 kept-line x y done k w l b = record { view = w; lines = k .lines; done = k .done; long = l; books = b }
 
@@ -109,7 +110,7 @@ module _ (d : Day) (fine-hours : judgeHours d ≡ fine) (k : ℕ) (l : k < 24) w
       value-by d k (λ v. v .l) (flowAt d k) refl (λ e. day-accepted d fine-hours k l e .flow-is) (flow-blank d k)
       (eqb (bit k (d .masks .measured)) 1) (eqb (bit k (d .masks .run)) 1) refl
 
-pub kept-day : (x : Line) (done : List Line) (bytes : List ℕ) (v : View) (s : Sums) (o : Open) (e : Done) (runs' measured' states' conc' flow' : List ℕ) (r : Taken)
+pub kept-day : (x : StackLine) (done : List Line) (bytes : List ℕ) (v : View) (s : Sums) (o : Open) (e : Done) (runs' measured' states' conc' flow' : List ℕ) (r : Taken)
     → Kept (Inside x done) v s o e → length (x .days) < x .head .days → masksOf bytes .day ≡ length (x .days)
     → DayTaken bytes v s (masksOf bytes) (o .runs) (o .measured) (o .states) (o .concentrations) (o .flows) runs' measured' states' conc' flow' r → r .fault .number ≡ 0 → judgeHours (dayOf bytes) ≡ fine
     → Kept (Inside (withDay x (dayOf bytes)) done) (r .view) (r .sums) (inOpen runs' measured' states' (o .flags) conc' flow') e
@@ -163,7 +164,7 @@ unfolding pick
 flag-bit true = refl
 flag-bit false = refl
 
-module _ (x : Line) (done : List Line) (v : View) (s : Sums) (t : Survey) (o : Open) (d : Done) (k : Kept (Inside x done) v s o d)
+module _ (x : StackLine) (done : List Line) (v : View) (s : Sums) (t : Survey) (o : Open) (d : Done) (k : Kept (Inside x done) v s o d)
     (hour : t .hour < hoursOfDay * x .head .days) (all-days : length (x .days) ≡ x .head .days) (room : surveys x < mostSurveys) (ok : PairAccepted (t .pair))
   where
     abbrev c : ℕ
@@ -191,7 +192,7 @@ module _ (x : Line) (done : List Line) (v : View) (s : Sums) (t : Survey) (o : O
         long-as _ _ _ _ _ _ (k .long) refl (length-set (o .measured) _ _) (length-set (o .states) (t .hour) 2) f (length-set (o .concentrations) (t .hour) c) (length-set (o .flows) (t .hour) l)
 
     -- a survey that stands: the view, the lists and the books, for the line y that has it
-    stands : (y : Line) (flags' : List ℕ) (o' : Tables) (w : Weighed) (r : Taken) → o' ≡ measuredAt (t .hour) (surveyC t) (surveyL t) tables → w ≡ standing (surveyC t) (surveyL t) found
+    stands : (y : StackLine) (flags' : List ℕ) (o' : Tables) (w : Weighed) (r : Taken) → o' ≡ measuredAt (t .hour) (surveyC t) (surveyL t) tables → w ≡ standing (surveyC t) (surveyL t) found
         → r .sums ≡ withSurvey s w → length flags' ≡ length (o .flags) → (w .found ≡ found → r .view ≡ viewOf (Inside y done)) → LineBooks y (withSurvey s (standing c l found)) (after flags' (measuredAt (t .hour) c l tables))
         → Kept (Inside y done) (r .view) (r .sums) (after flags' o') d
     stands y flags' o' w r et ew es f ev books =
@@ -238,7 +239,7 @@ module _ (x : Line) (done : List Line) (v : View) (s : Sums) (t : Survey) (o : O
           (sym (beats-within (o .flags) (t .hour) (omega (arith, k .books .period))) ∙ ap (λ (n : ℕ). eqb n 1) flag-is ∙ flag-bit (hasSurvey (t .hour) (x .enforcement)))
 
 -- ---- a batch
-pub kept-batch : (x : Line) (done : List Line) (v : View) (s : Sums) (b : Batch) (o : Open) (d : Done) (r : Taken)
+pub kept-batch : (x : StackLine) (done : List Line) (v : View) (s : Sums) (b : Batch) (o : Open) (d : Done) (r : Taken)
     → Kept (Inside x done) v s o d → b .kg + fuel (x .batches) ≤ mostFuel → b .sulphur ≤ mostSulphur → b .ash ≤ mostAsh
     → BatchTaken v s b r → Kept (Inside (withBatch x b) done) (r .view) (r .sums) o d
 kept-batch x done v s b o d r k most sm am e =

@@ -19,7 +19,7 @@ use Rattle.rules.specs.declared.Batch.{Batch}
 use Rattle.rules.specs.Records.{Day}
 use Rattle.rules.specs.Slots.{stopped}
 use Rattle.rules.specs.Hours.{slotOf, slotsOf, runMasks, measuredMasks, lacking}
-use Rattle.rules.specs.Lines.{Line, hasSurvey, besides, surveyed, putSurvey, putSurveys, daysAfter, surveys, fuel}
+use Rattle.rules.specs.Lines.{StackLine, hasSurvey, besides, surveyed, putSurvey, putSurveys, daysAfter, hours, surveys, fuel}
 use Rattle.rules.proofs.Surveyed.{days-length, days-runs, put-measured, put-lacking}
 use Rattle.rules.specs.Fill.{Values, zeroes}
 use Rattle.rules.specs.Grams.{valuesOf, amount, surveyValues, sulphurOf}
@@ -37,10 +37,10 @@ use Rattle.hours.specs.Marks.{withMeasured, foundBy}
 use Rattle.day.specs.Day.{hourState}
 
 -- ---- a head: nothing is taken in yet
-begun-cells : (h : Head) (f : Values → ℕ) (most : ℕ) → f zeroes ≡ 0 → CellsKept (λ k. f (valuesAt (begun h) k)) most (table (λ k. 0) mostHours)
+begun-cells : (h : Head) (f : Values → ℕ) (most : ℕ) → f zeroes ≡ 0 → CellsKept (λ k. f (valuesAt (hours (begun h)) k)) most (table (λ k. 0) mostHours)
 begun-cells h f most z =
-    let none : (k : ℕ) → f (valuesAt (begun h) k) ≡ 0 = λ k. ap f (begun-zero h k) ∙ z in
-    record { hold = table-same (λ k. 0) (λ k. f (valuesAt (begun h) k)) mostHours (λ k m. sym (none k)); within = λ k. omega (arith, none k) }
+    let none : (k : ℕ) → f (valuesAt (hours (begun h)) k) ≡ 0 = λ k. ap f (begun-zero h k) ∙ z in
+    record { hold = table-same (λ k. 0) (λ k. f (valuesAt (hours (begun h)) k)) mostHours (λ k m. sym (none k)); within = λ k. omega (arith, none k) }
 
 pub begun-books : (h : Head) (runs measured states : List ℕ) → h .days ≤ mostDays → (1 ≤ h .pollutant) × (h .pollutant ≤ totalCells)
     → LineBooks (begun h) (openedSums h) (inOpen runs measured states (table (λ k. 0) mostHours) (table (λ k. 0) mostHours) (table (λ k. 0) mostHours))
@@ -61,38 +61,38 @@ begun-books h runs measured states l p =
     }
 
 -- ---- a day
-day-past : (x : Line) (d : Day) (h : ℕ) → hoursOfDay * length (x .days) + 24 ≤ h → valuesAt (withDay x d) h ≡ zeroes
+day-past : (x : StackLine) (d : Day) (h : ℕ) → hoursOfDay * length (x .days) + 24 ≤ h → valuesAt (hours (withDay x d)) h ≡ zeroes
 unfolding withDay
 day-past x d h l = past-zero (withDay x d) h (omega arith)
 
-module _ (x : Line) (d : Day) {s : Sums} {o : Open} (k : LineBooks x s o) (more : length (x .days) < x .head .days) where
+module _ (x : StackLine) (d : Day) {s : Sums} {o : Open} (k : LineBooks x s o) (more : length (x .days) < x .head .days) where
   abbrev n : ℕ
   n = length (x .days)
 
-  old-hours : (h : ℕ) → h < hoursOfDay * n → valuesAt (withDay x d) h ≡ valuesAt x h
+  old-hours : (h : ℕ) → h < hoursOfDay * n → valuesAt (hours (withDay x d)) h ≡ valuesAt (hours x) h
   old-hours h l = day-before x d (k .early more .0) (k .early more .1) h l
 
-  own-hours : (i : ℕ) → i < 24 → valuesAt (withDay x d) (hoursOfDay * n + i) ≡ inCell (slotOf d i)
+  own-hours : (i : ℕ) → i < 24 → valuesAt (hours (withDay x d)) (hoursOfDay * n + i) ≡ inCell (slotOf d i)
   own-hours i l = day-own x d (k .early more .0) (k .early more .1) i l
 
   -- what holds of every hour before, of the day's own and of nothing holds of every hour after
-  day-all : (Q : Values → Type 0) → ((h : ℕ) → Q (valuesAt x h)) → ((i : ℕ) → i < 24 → Q (inCell (slotOf d i))) → Q zeroes → (h : ℕ) → Q (valuesAt (withDay x d) h)
+  day-all : (Q : Values → Type 0) → ((h : ℕ) → Q (valuesAt (hours x) h)) → ((i : ℕ) → i < 24 → Q (inCell (slotOf d i))) → Q zeroes → (h : ℕ) → Q (valuesAt (hours (withDay x d)) h)
   day-all Q old own none h = go (decLt h (hoursOfDay * n)) (decLt h (hoursOfDay * n + 24))
     where
-      go : Dec (h < hoursOfDay * n) → Dec (h < hoursOfDay * n + 24) → Q (valuesAt (withDay x d) h)
+      go : Dec (h < hoursOfDay * n) → Dec (h < hoursOfDay * n + 24) → Q (valuesAt (hours (withDay x d)) h)
       go (yes l) t = subst Q (sym (old-hours h l)) (old h)
       go (no l) (yes t) =
           let e : hoursOfDay * n + (h - hoursOfDay * n) ≡ h = omega arith in
-          subst (λ (i : ℕ). Q (valuesAt (withDay x d) i)) e (subst Q (sym (own-hours (h - hoursOfDay * n) (omega arith))) (own (h - hoursOfDay * n) (omega arith)))
+          subst (λ (i : ℕ). Q (valuesAt (hours (withDay x d)) i)) e (subst Q (sym (own-hours (h - hoursOfDay * n) (omega arith))) (own (h - hoursOfDay * n) (omega arith)))
       go (no l) (no t) = subst Q (sym (day-past x d h (omega arith))) none
 
   day-cells : (f : Values → ℕ) (most : ℕ) (v : ℕ → ℕ) (cells : List ℕ) → f zeroes ≡ 0 → ((i : ℕ) → i < 24 → f (inCell (slotOf d i)) ≡ v i) → ((i : ℕ) → i < 24 → v i ≤ most)
-      → CellsKept (λ h. f (valuesAt x h)) most cells → CellsKept (λ h. f (valuesAt (withDay x d) h)) most (putFrom v 24 (hoursOfDay * n) cells)
+      → CellsKept (λ h. f (valuesAt (hours x) h)) most cells → CellsKept (λ h. f (valuesAt (hours (withDay x d)) h)) most (putFrom v 24 (hoursOfDay * n) cells)
   day-cells f most v cells z own limit c =
       record {
         hold =
             ap (putFrom v 24 (hoursOfDay * n)) (c .hold)
-            ∙ table-patch (λ h. f (valuesAt x h)) (λ h. f (valuesAt (withDay x d) h)) v (hoursOfDay * n) 24 mostHours (omega (arith, k .period))
+            ∙ table-patch (λ h. f (valuesAt (hours x) h)) (λ h. f (valuesAt (hours (withDay x d)) h)) v (hoursOfDay * n) 24 mostHours (omega (arith, k .period))
             (λ h l. ap f (old-hours h l))
             (λ i l. ap f (own-hours i l) ∙ own i l)
             (λ h l. ap f (day-past x d h l) ∙ sym (ap f (past-zero x h (omega arith))));
@@ -129,15 +129,15 @@ module _ (x : Line) (d : Day) {s : Sums} {o : Open} (k : LineBooks x s o) (more 
       }
 
 -- ---- surveys: what each kind adds to the surveyed hours
-enforced : (x : Line) (s : Survey) → x .plant ≡ [] → surveyed (withEnforcement x s) ≡ s ∷ surveyed x
+enforced : (x : StackLine) (s : Survey) → x .plant ≡ [] → surveyed (withEnforcement x s) ≡ s ∷ surveyed x
 unfolding surveyed withEnforcement besides
 enforced x s e = rw e
 
-planted-second : (x : Line) (s : Survey) → hasSurvey (s .hour) (x .enforcement) ≡ true → surveyed (withPlant x s) ≡ surveyed x
+planted-second : (x : StackLine) (s : Survey) → hasSurvey (s .hour) (x .enforcement) ≡ true → surveyed (withPlant x s) ≡ surveyed x
 unfolding surveyed withPlant besides pick
 planted-second x s t = rw t
 
-planted : (x : Line) (s : Survey) → hasSurvey (s .hour) (x .enforcement) ≡ false → surveyed (withPlant x s) ≡ s ∷ surveyed x
+planted : (x : StackLine) (s : Survey) → hasSurvey (s .hour) (x .enforcement) ≡ false → surveyed (withPlant x s) ≡ s ∷ surveyed x
 unfolding surveyed withPlant besides pick
 planted x s t = rw t
 
@@ -151,18 +151,18 @@ unfolding besides
 besides-most others [] = omega arith
 besides-most others (s ∷ ss) = one-most (hasSurvey (s .hour) others) (besides others ss) s (length ss) (besides-most others ss)
 
-pub surveyed-most : (x : Line) → length (surveyed x) ≤ surveys x
+pub surveyed-most : (x : StackLine) → length (surveyed x) ≤ surveys x
 unfolding surveyed surveys
 surveyed-most x = simp length-append (omega (arith, besides-most (x .enforcement) (x .plant)))
 
 -- ---- a line with other surveys, after its last day: its fuel and its period are as they were
-abbrev withOther : Line → List Survey → List Survey → Line
+abbrev withOther : StackLine → List Survey → List Survey → StackLine
 withOther x es ps = record { head = x .head; days = x .days; enforcement = es; plant = ps; batches = x .batches }
 
-survey-books : (x : Line) (es ps : List Survey) (t' : Sums) {t : Sums} {o : Open} (o' : Open) → LineBooks x t o
+survey-books : (x : StackLine) (es ps : List Survey) (t' : Sums) {t : Sums} {o : Open} (o' : Open) → LineBooks x t o
     → length (x .days) ≡ x .head .days → length es + length ps ≤ mostSurveys → t' .sulphur ≡ t .sulphur → t' .ash ≡ t .ash → t' .used ≡ t .used
     → MasksKept (withOther x es ps) (o' .runs) (o' .measured) (o' .states)
-    → CellsKept (λ h. valuesAt (withOther x es ps) h .c) mostConcentration (o' .concentrations) → CellsKept (λ h. valuesAt (withOther x es ps) h .l) mostFlow (o' .flows)
+    → CellsKept (λ h. valuesAt (hours (withOther x es ps)) h .c) mostConcentration (o' .concentrations) → CellsKept (λ h. valuesAt (hours (withOther x es ps)) h .l) mostFlow (o' .flows)
     → SurveysKept (x .head .days) es (surveyed (withOther x es ps)) (t' .surveyed) (t' .weight) (o' .flags) → LineBooks (withOther x es ps) t' o'
 unfolding surveys
 survey-books x es ps t' o' k all-days few s a u m c l y =
@@ -181,8 +181,8 @@ survey-books x es ps t' o' k all-days few s a u m c l y =
     }
 
 -- ---- a survey that stands, of either kind: the line y has it beside those of x
-module _ (x : Line) (es ps : List Survey) (s : Survey) where
-  abbrev y : Line
+module _ (x : StackLine) (es ps : List Survey) (s : Survey) where
+  abbrev y : StackLine
   y = withOther x es ps
 
   module _ (more : surveyed y ≡ s ∷ surveyed x) where
@@ -198,19 +198,19 @@ module _ (x : Line) (es ps : List Survey) (s : Survey) where
       within = omega (arith, k .period)
 
       -- its hour's cell holds its value
-      stood-cells : (f : Values → ℕ) (most : ℕ) (cells : List ℕ) → f (valuesOf (s .pair)) ≤ most → CellsKept (λ h. f (valuesAt x h)) most cells
-          → CellsKept (λ h. f (valuesAt y h)) most (set cells (s .hour) (f (valuesOf (s .pair))))
+      stood-cells : (f : Values → ℕ) (most : ℕ) (cells : List ℕ) → f (valuesOf (s .pair)) ≤ most → CellsKept (λ h. f (valuesAt (hours x) h)) most cells
+          → CellsKept (λ h. f (valuesAt (hours y) h)) most (set cells (s .hour) (f (valuesOf (s .pair))))
       stood-cells f most cells limit c =
           record {
             hold =
                 ap (λ (l : List ℕ). set l (s .hour) (f (valuesOf (s .pair)))) (c .hold)
-                ∙ table-set (λ h. f (valuesAt x h)) (λ h. f (valuesAt y h)) mostHours (s .hour) (f (valuesOf (s .pair))) 0 within (ap f (survey-own x y s days-stood in-days))
+                ∙ table-set (λ h. f (valuesAt (hours x) h)) (λ h. f (valuesAt (hours y) h)) mostHours (s .hour) (f (valuesOf (s .pair))) 0 within (ap f (survey-own x y s days-stood in-days))
                 (λ h l n. ap f (survey-other x y s days-stood in-days h n));
             within = λ h. by h (ℕ-discrete h (s .hour));
           }
         where
-          by : (h : ℕ) → Dec (h ≡ s .hour) → f (valuesAt y h) ≤ most
-          by h (yes e) = omega (arith, ap (λ (i : ℕ). f (valuesAt y i)) e, ap f (survey-own x y s days-stood in-days), limit)
+          by : (h : ℕ) → Dec (h ≡ s .hour) → f (valuesAt (hours y) h) ≤ most
+          by h (yes e) = omega (arith, ap (λ (i : ℕ). f (valuesAt (hours y) i)) e, ap f (survey-own x y s days-stood in-days), limit)
           by h (no n) = omega (arith, ap f (survey-other x y s days-stood in-days h n), c .within h)
 
       -- its hour is marked in the masks and the states
@@ -258,7 +258,7 @@ module _ (x : Line) (es ps : List Survey) (s : Survey) where
           ap lacking days-stood ∙ put-lacking s (daysAfter x) (omega (arith, in-days, days-length x)) ∙ ap (λ (n : ℕ). lacking (daysAfter x) - n) (sym found-is)
 
 -- ---- an enforcement survey: its flag is set
-module _ (x : Line) (s : Survey) where
+module _ (x : StackLine) (s : Survey) where
   e-flag : (h : ℕ) → (h ≡ s .hour → ⊥) → flagAt (s ∷ x .enforcement) h ≡ flagAt (x .enforcement) h
   unfolding flagAt hasSurvey
   e-flag h n = rw (ne-eqb h (s .hour) n)
@@ -301,19 +301,19 @@ module _ (x : Line) (s : Survey) where
       plant-lacking free = lacking-stood x (x .enforcement) (s ∷ x .plant) s (planted x s free) k long all-days hour
 
 -- ---- a plant survey that is beaten changes nothing
-module _ (x : Line) (s : Survey) (beaten : hasSurvey (s .hour) (x .enforcement) ≡ true) where
+module _ (x : StackLine) (s : Survey) (beaten : hasSurvey (s .hour) (x .enforcement) ≡ true) where
   pub days-beaten : daysAfter (withPlant x s) ≡ daysAfter x
   unfolding daysAfter withPlant
   days-beaten = ap (λ (ss : List Survey). putSurveys ss (x .days)) (planted-second x s beaten)
 
-  beaten-value : (h : ℕ) → valuesAt (withPlant x s) h ≡ valuesAt x h
-  unfolding valuesAt
+  beaten-value : (h : ℕ) → valuesAt (hours (withPlant x s)) h ≡ valuesAt (hours x) h
+  unfolding valuesAt hours
   beaten-value h = ap (λ (ds : List Day). inCell (getD (slotsOf ds) h stopped)) days-beaten
 
-  beaten-cells : (f : Values → ℕ) (most : ℕ) (cells : List ℕ) → CellsKept (λ h. f (valuesAt x h)) most cells → CellsKept (λ h. f (valuesAt (withPlant x s) h)) most cells
+  beaten-cells : (f : Values → ℕ) (most : ℕ) (cells : List ℕ) → CellsKept (λ h. f (valuesAt (hours x) h)) most cells → CellsKept (λ h. f (valuesAt (hours (withPlant x s)) h)) most cells
   beaten-cells f most cells c =
       record {
-        hold = c .hold ∙ table-same (λ h. f (valuesAt x h)) (λ h. f (valuesAt (withPlant x s) h)) mostHours (λ h l. sym (ap f (beaten-value h)));
+        hold = c .hold ∙ table-same (λ h. f (valuesAt (hours x) h)) (λ h. f (valuesAt (hours (withPlant x s)) h)) mostHours (λ h l. sym (ap f (beaten-value h)));
         within = λ h. omega (arith, ap f (beaten-value h), c .within h);
       }
 
@@ -326,9 +326,9 @@ module _ (x : Line) (s : Survey) (beaten : hasSurvey (s .hour) (x .enforcement) 
       (subst (λ (l : List Survey). SurveysKept (x .head .days) (x .enforcement) l (t .surveyed) (t .weight) (o .flags)) (sym (planted-second x s beaten)) (k .surveys))
 
 -- ---- a batch: no hour and no survey changes
-pub batch-books : (x : Line) (f : Batch) {t : Sums} {o : Open} → LineBooks x t o
+pub batch-books : (x : StackLine) (f : Batch) {t : Sums} {o : Open} → LineBooks x t o
     → f .kg + fuel (x .batches) ≤ mostFuel → f .sulphur ≤ mostSulphur → f .ash ≤ mostAsh → LineBooks (withBatch x f) (withFuel t f) o
-unfolding withBatch valuesAt surveys surveyed daysAfter sulphurOf ashOf sumOf largest
+unfolding withBatch valuesAt surveys surveyed daysAfter sulphurOf ashOf sumOf largest hours
 batch-books x f k most sm am =
     record {
       masks = record { runsKept = k .masks .runsKept; measuredKept = k .masks .measuredKept; statesKept = k .masks .statesKept };

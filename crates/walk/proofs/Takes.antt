@@ -17,7 +17,8 @@ use Rattle.rules.specs.declared.Coefficients.{Coefficients}
 use Rattle.rules.specs.declared.Coefficients.the-variants.{Balance, Oxides, Dust, NoEntry}
 use Rattle.rules.specs.Grams.{sulphurOf}
 use Rattle.rules.specs.Hours.{runMasks, measuredMasks, firstMissing, running, lacking}
-use Rattle.rules.specs.Lines.{Line, daysAfter, surveys, fuel}
+use Rattle.rules.specs.Lines.{StackLine, daysAfter, surveys, fuel}
+use Rattle.rules.specs.Outfalls.{Line, OfStack}
 use Rattle.rules.proofs.Surveyed.{days-length, days-runs, days-no-more, found-most}
 use Rattle.line.specs.Put.{Tables, inTables}
 use Rattle.rules.specs.Method.{isAutomatic, isManual, methodOf, method}
@@ -53,12 +54,12 @@ between-out : (done : List Line) (v : View) → v ≡ viewOf (Between done) → 
 unfolding viewOf
 between-out done v e t = true≢false (sym t ∙ ap (λ (w : View). w .inside) e)
 
-inside-in : (x : Line) (done : List Line) (v : View) → v ≡ viewOf (Inside x done) → v .inside ≡ false → ⊥
+inside-in : (x : StackLine) (done : List Line) (v : View) → v ≡ viewOf (Inside x done) → v .inside ≡ false → ⊥
 unfolding viewOf
 inside-in x done v e t = true≢false (sym (ap (λ (w : View). w .inside) e) ∙ t)
 
 -- a record that only an open line takes finds one: what holds wherever a line is open holds where the walk stands
-in-line : (stand : Stand) (v : View) → v ≡ viewOf stand → v .inside ≡ true → (P : Stand → Type 0) → ((x : Line) (done : List Line) → P (Inside x done)) → P stand
+in-line : (stand : Stand) (v : View) → v ≡ viewOf stand → v .inside ≡ true → (P : Stand → Type 0) → ((x : StackLine) (done : List Line) → P (Inside x done)) → P stand
 in-line (Between done) v e t P f = absurd (between-out done v e t)
 in-line (Inside x done) v e t P f = f x done
 
@@ -81,13 +82,13 @@ above-two (suc zero) l n k = absurd (n refl)
 above-two (suc (suc zero)) l n k = absurd (k refl)
 above-two (suc (suc (suc m))) l n k = omega arith
 
-method-least : (x : Line) → 1 ≤ method x
+method-least : (x : StackLine) → 1 ≤ method x
 unfolding method methodOf
 method-least x =
     pick-case (λ (m : ℕ). 1 ≤ m) (isAutomatic (running (x .days)) (lacking (daysAfter x))) 1 _ (λ _. omega arith)
     (λ _. pick-case (λ (m : ℕ). 1 ≤ m) (isManual (x .head) (surveys x)) 2 _ (λ _. omega arith) (λ _. pick-case (λ (m : ℕ). 1 ≤ m) (eqb (x .head .pollutant) 1) 3 4 (λ _. omega arith) (λ _. omega arith)))
 
-surveys-are : (x : Line) → surveys x ≡ length (x .enforcement) + length (x .plant)
+surveys-are : (x : StackLine) → surveys x ≡ length (x .enforcement) + length (x .plant)
 unfolding surveys
 surveys-are x = refl
 
@@ -108,7 +109,7 @@ module _ (h : Head) (batches : List Batch) (i : InRange batches) where
   fuel-most : gramsIn figureNow ≤ mostGrams
   fuel-most = fuel-by (coefficientsOf h) refl
 
-days-all : (x : Line) (done : List Line) {v : View} → v ≡ viewOf (Inside x done) → v .days ≡ v .head .days → length (x .days) ≡ x .head .days
+days-all : (x : StackLine) (done : List Line) {v : View} → v ≡ viewOf (Inside x done) → v .days ≡ v .head .days → length (x .days) ≡ x .head .days
 unfolding viewOf
 days-all x done e d = sym (ap (λ (w : View). w .days) e) ∙ d ∙ ap (λ (w : View). w .head .days) e
 
@@ -142,7 +143,7 @@ module _ (bytes : List ℕ) (v : View) (s : Sums) (o : Open) (d : Done) where
       (λ done y. kept-head done v s h o d flags' conc' flow' t y (ok .days-most) (ok .pollutant-least, ok .pollutant-most) (lines-left done v (y .view) (ok .room)) e) (k .kept))
 
   -- ---- a day
-  day-facts : (x : Line) (done : List Line) (m : Masks) → v ≡ viewOf (Inside x done) → v .days < v .head .days → m .day ≡ v .days
+  day-facts : (x : StackLine) (done : List Line) (m : Masks) → v ≡ viewOf (Inside x done) → v .days < v .head .days → m .day ≡ v .days
       → (length (x .days) < x .head .days) × (m .day ≡ length (x .days))
   unfolding viewOf
   day-facts x done m e l n = (omega (arith, ap (λ (w : View). w .days) e, ap (λ (w : View). w .head .days) e), n ∙ ap (λ (w : View). w .days) e)
@@ -165,13 +166,13 @@ module _ (bytes : List ℕ) (v : View) (s : Sums) (o : Open) (d : Done) where
       })
 
   -- ---- surveys
-  pub record SurveyFacts (x : Line) (t : Survey) : Type 0 where
+  pub record SurveyFacts (x : StackLine) (t : Survey) : Type 0 where
     pub hour : t .hour < hoursOfDay * x .head .days
     pub all-days : length (x .days) ≡ x .head .days
     pub room : surveys x < mostSurveys
     pub pair : PairAccepted (t .pair)
 
-  survey-facts : (x : Line) (done : List Line) (t : Survey) → v ≡ viewOf (Inside x done) → SurveyOk v t → SurveyFacts x t
+  survey-facts : (x : StackLine) (done : List Line) (t : Survey) → v ≡ viewOf (Inside x done) → SurveyOk v t → SurveyFacts x t
   unfolding viewOf surveys
   survey-facts x done t e ok =
       record {
@@ -181,7 +182,7 @@ module _ (bytes : List ℕ) (v : View) (s : Sums) (o : Open) (d : Done) where
         pair = ok .pair;
       }
 
-  no-plant : (x : Line) (done : List Line) → v ≡ viewOf (Inside x done) → v .plant .count ≡ 0 → x .plant ≡ []
+  no-plant : (x : StackLine) (done : List Line) → v ≡ viewOf (Inside x done) → v .plant .count ≡ 0 → x .plant ≡ []
   unfolding viewOf
   no-plant x done e z = empty-of (x .plant) (sym (survey-count (x .plant)) ∙ sym (ap (λ (w : View). w .plant .count) e) ∙ z)
 
@@ -219,7 +220,7 @@ module _ (bytes : List ℕ) (v : View) (s : Sums) (o : Open) (d : Done) where
       (λ x done y. kept-batch x done v s b o d u y (omega (arith, ok .fuel-most, ap (λ (w : View). w .fuel) (y .view))) (ok .sulphur-most) (ok .ash-most) e) (k .kept))
 
   -- ---- an end
-  no-entry : (x : Line) (done : List Line) → v ≡ viewOf (Inside x done) → EndOk v → (method x ≡ 1 → ⊥) → (method x ≡ 2 → ⊥) → coefficientsOf (x .head) ≡ NoEntry → ⊥
+  no-entry : (x : StackLine) (done : List Line) → v ≡ viewOf (Inside x done) → EndOk v → (method x ≡ 1 → ⊥) → (method x ≡ 2 → ⊥) → coefficientsOf (x .head) ≡ NoEntry → ⊥
   unfolding viewOf
   no-entry x done e ok n m q =
       ok .by-fuel (subst (λ (i : ℕ). 2 < i) (sym (ap lineMethod e ∙ method-is x done)) (above-two (method x) (method-least x) n m)) .1
@@ -269,7 +270,7 @@ module _ (bytes : List ℕ) (v : View) (s : Sums) (o : Open) (d : Done) where
         whole = day-in bytes m (sym (k .read) ∙ q) .0;
       }) (k .kept)
 
-  weights-most : (x : Line) (done : List Line) → Kept (Inside x done) v s o d → (s .surveyed ≤ mostSurveys) × (s .weight ≤ mostSurveys * mostAmount)
+  weights-most : (x : StackLine) (done : List Line) → Kept (Inside x done) v s o d → (s .surveyed ≤ mostSurveys) × (s .weight ≤ mostSurveys * mostAmount)
   weights-most x done k =
       let y = k .books .surveys in
       (omega (arith, y .counted, surveyed-most x, k .books .few), omega (arith, y .weighed, y .most, surveyed-most x, k .books .few))

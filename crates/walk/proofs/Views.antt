@@ -11,7 +11,8 @@ use Rattle.rules.specs.declared.Survey.{Survey}
 use Rattle.rules.specs.declared.Batch.{Batch}
 use Rattle.rules.specs.Records.{Day}
 use Rattle.rules.specs.Hours.{running, lacking}
-use Rattle.rules.specs.Lines.{Line, besides, surveyed, putSurveys, daysAfter, fuel}
+use Rattle.rules.specs.Lines.{StackLine, besides, surveyed, putSurveys, daysAfter, fuel}
+use Rattle.rules.specs.Outfalls.{Line, OfStack, headOfLine}
 use Rattle.rules.specs.Walk.{Between, Inside, noHead, viewOf, floorOf, surveysOf, begun, withDay, withEnforcement, withPlant, withBatch}
 use Rattle.walk.proofs.Hours.{after-day}
 use Rattle.walk.specs.Views.{oneMore, openedView, afterHead, afterDay, afterEnforcement, afterPlant, afterBatch, afterEnd}
@@ -27,30 +28,30 @@ more-surveys s [] = refl
 more-surveys s (t ∷ ts) = ap (λ (n : ℕ). record { count = n; floor = s .hour + 1 }) (add-one (length (t ∷ ts)))
 
 pub view-start : openedView false 0 0 noHead ≡ viewOf (Between [])
-unfolding viewOf floorOf surveysOf
+unfolding viewOf floorOf headOfLine surveysOf
 view-start = refl
 
 pub view-head : (done : List Line) (h : Head) → afterHead (viewOf (Between done)) h ≡ viewOf (Inside (begun h) done)
-unfolding viewOf begun floorOf surveysOf surveyed besides daysAfter putSurveys running lacking fuel sumOf
+unfolding viewOf begun floorOf headOfLine surveysOf surveyed besides daysAfter putSurveys running lacking fuel sumOf
 view-head done h = refl
 
-pub view-day : (x : Line) (done : List Line) (d : Day) → x .enforcement ≡ [] → x .plant ≡ [] → afterDay (viewOf (Inside x done)) (d .masks) ≡ viewOf (Inside (withDay x d) done)
-unfolding viewOf withDay floorOf running lacking sumOf
+pub view-day : (x : StackLine) (done : List Line) (d : Day) → x .enforcement ≡ [] → x .plant ≡ [] → afterDay (viewOf (Inside x done)) (d .masks) ≡ viewOf (Inside (withDay x d) done)
+unfolding viewOf withDay floorOf headOfLine running lacking sumOf
 view-day x done d e q = rw (add-one (length (x .days)), after-day x d e q)
 
-module _ (x : Line) (done : List Line) (s : Survey) (found : ℕ) where
+module _ (x : StackLine) (done : List Line) (s : Survey) (found : ℕ) where
   pub view-enforcement : lacking (daysAfter (withEnforcement x s)) ≡ lacking (daysAfter x) - found → afterEnforcement (viewOf (Inside x done)) (s .hour) found ≡ viewOf (Inside (withEnforcement x s) done)
-  unfolding viewOf withEnforcement floorOf
+  unfolding viewOf withEnforcement floorOf headOfLine
   view-enforcement e = rw (more-surveys s (x .enforcement), e)
 
   pub view-plant : lacking (daysAfter (withPlant x s)) ≡ lacking (daysAfter x) - found → afterPlant (viewOf (Inside x done)) (s .hour) found ≡ viewOf (Inside (withPlant x s) done)
-  unfolding viewOf withPlant floorOf
+  unfolding viewOf withPlant floorOf headOfLine
   view-plant e = rw (more-surveys s (x .plant), e)
 
-pub view-batch : (x : Line) (done : List Line) (b : Batch) → afterBatch (viewOf (Inside x done)) (b .kg) ≡ viewOf (Inside (withBatch x b) done)
-unfolding viewOf withBatch floorOf daysAfter surveyed fuel sumOf
+pub view-batch : (x : StackLine) (done : List Line) (b : Batch) → afterBatch (viewOf (Inside x done)) (b .kg) ≡ viewOf (Inside (withBatch x b) done)
+unfolding viewOf withBatch floorOf headOfLine daysAfter surveyed fuel sumOf
 view-batch x done b = rw (add-one (length (x .batches)))
 
-pub view-end : (x : Line) (done : List Line) → afterEnd (viewOf (Inside x done)) ≡ viewOf (Between (x ∷ done))
-unfolding viewOf floorOf surveysOf
+pub view-end : (x : StackLine) (done : List Line) → afterEnd (viewOf (Inside x done)) ≡ viewOf (Between (OfStack x ∷ done))
+unfolding viewOf floorOf headOfLine surveysOf
 view-end x done = rw (add-one (length done))

@@ -10,8 +10,9 @@ use Rattle.rules.specs.declared.Survey.{Survey}
 use Rattle.rules.specs.declared.Batch.{Batch}
 use Rattle.rules.specs.declared.View.{View}
 use Rattle.rules.specs.Slots.{Slot, valid, missing, stopped}
-use Rattle.rules.specs.Hours.{slotsOf, runMasks, measuredMasks}
-use Rattle.rules.specs.Lines.{Line, hasSurvey, surveyed, daysAfter, surveys as surveysIn}
+use Rattle.rules.specs.Hours.{runMasks, measuredMasks}
+use Rattle.rules.specs.Lines.{StackLine, hasSurvey, surveyed, daysAfter, hours, surveys as surveysIn}
+use Rattle.rules.specs.Outfalls.{Line, OfStack}
 use Rattle.rules.specs.Fill.{Values, zeroes}
 use Rattle.rules.specs.Grams.{valuesOf, amount, surveyValues, sulphurOf}
 use Rattle.rules.specs.Row.{rowsOf, totalsOf, concentrationCells, flowCells}
@@ -56,16 +57,16 @@ inCell (valid p) = valuesOf p
 inCell missing = zeroes
 inCell stopped = zeroes
 
--- the values of hour h of a line so far, after its surveys; past its days 0
-unfoldable pub valuesAt : Line → ℕ → Values
-valuesAt x h = inCell (getD (slotsOf (daysAfter x)) h stopped)
+-- the values of hour h of the hours of a line so far, after its surveys, or of day h; past its days 0
+unfoldable pub valuesAt : List (Slot Pair) → ℕ → Values
+valuesAt slots h = inCell (getD slots h stopped)
 
 -- 1 where an hour has an enforcement survey
 unfoldable pub flagAt : List Survey → ℕ → ℕ
 flagAt enforcement h = pick (hasSurvey h enforcement) 1 0
 
 -- the masks of the days so far, a surveyed hour's measured bit set, and the states of their hours
-pub record MasksKept (x : Line) (runs measured states : List ℕ) : Type 0 where
+pub record MasksKept (x : StackLine) (runs measured states : List ℕ) : Type 0 where
   pub runsKept : take (length (x .days)) runs ≡ runMasks (x .days)
   pub measuredKept : take (length (x .days)) measured ≡ measuredMasks (daysAfter x)
   pub statesKept : take (hoursOfDay * length (x .days)) states ≡ periodStates runs measured (length (x .days))
@@ -90,10 +91,10 @@ pub record FuelKept (batches : List Batch) (sulphur ash : ℕ) : Type 0 where
   pub range : InRange batches
 
 -- what the code holds of an open line. No survey comes before the last day
-pub record LineBooks (x : Line) (s : Sums) (o : Open) : Type 0 where
+pub record LineBooks (x : StackLine) (s : Sums) (o : Open) : Type 0 where
   pub masks : MasksKept x (o .runs) (o .measured) (o .states)
-  pub concentrations : CellsKept (λ h. valuesAt x h .c) mostConcentration (o .concentrations)
-  pub flows : CellsKept (λ h. valuesAt x h .l) mostFlow (o .flows)
+  pub concentrations : CellsKept (λ h. valuesAt (hours x) h .c) mostConcentration (o .concentrations)
+  pub flows : CellsKept (λ h. valuesAt (hours x) h .l) mostFlow (o .flows)
   pub surveys : SurveysKept (x .head .days) (x .enforcement) (surveyed x) (s .surveyed) (s .weight) (o .flags)
   pub fuel : FuelKept (x .batches) (s .sulphur) (s .ash)
   pub used : s .used ≡ hoursOfDay * x .head .days

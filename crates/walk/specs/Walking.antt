@@ -10,7 +10,7 @@ use Rattle.rules.specs.declared.Record.{Record}
 use Rattle.rules.specs.declared.View.{View}
 use Rattle.rules.specs.Records.{recordIn, recordsFrom}
 use Rattle.rules.specs.Judge.{fine, judgeRecord, judgeReadings}
-use Rattle.rules.specs.Lines.{Line}
+use Rattle.rules.specs.Outfalls.{Line}
 use Rattle.rules.specs.Row.{rowsOf, totalsOf, concentrationCells, flowCells}
 use Rattle.rules.specs.Walk.{Stand, taken, runsOf, walk, Refused, Accepted, outcome}
 use Rattle.rules.specs.Account.{refusal, answerFrom, rowsFrom, cellsFrom}
