@@ -21,9 +21,9 @@ rowCells = 7
 abbrev pub mostCells : ℕ
 mostCells = 336
 
--- "three totals"
+-- "the answer and the total line always have five totals"
 abbrev pub totalCells : ℕ
-totalCells = 3
+totalCells = 5
 
 -- "at most 120 surveys of both kinds together, 92 batches"
 abbrev pub mostSurveys : ℕ
