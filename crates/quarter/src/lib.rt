@@ -14,7 +14,7 @@ const TOO_FEW: Answer = Answer {
     number: 8,
     place: 0,
     rows: 0,
-    totals: [0; 3],
+    totals: [0; 5],
 };
 
 // 8: the first 2,208 cells of both work slices cleared, and the refusal answered.

@@ -140,7 +140,7 @@ module _ (bytes : List ℕ) (v : View) (s : Sums) (o : Open) (d : Done) where
       let ok = head-ok v (runsOf stand) h (judged stand r (OfHead h) q k) in
       took-other stand r (OfHead h) t _ d q (e .faults) refl
       (between-lines stand v (k .kept .view) (ok .outside) (λ a. Kept a v s o d → Kept (taken a bytes (OfHead h)) (t .view) (t .sums) (inOpen (o .runs) (o .measured) (o .states) flags' conc' flow') d)
-      (λ done y. kept-head done v s h o d flags' conc' flow' t y (ok .days-most) (ok .pollutant-least, ok .pollutant-most) (lines-left done v (y .view) (ok .room)) e) (k .kept))
+      (λ done y. kept-head done v s h o d flags' conc' flow' t y (ok .days-most) (ok .pollutant-least, omega (arith, ok .pollutant-most)) (lines-left done v (y .view) (ok .room)) e) (k .kept))
 
   -- ---- a day
   day-facts : (x : StackLine) (done : List Line) (m : Masks) → v ≡ viewOf (Inside x done) → v .days < v .head .days → m .day ≡ v .days

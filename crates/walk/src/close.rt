@@ -69,7 +69,7 @@ pub fn line_grams(method: u32, v: View, s: Sums, conc: &[u32], flow: &[u32]) -> 
 }
 
 // "Each pollutant's grams summed": a line's grams go to the total of its pollutant.
-pub fn add_grams(totals: &mut [u64; 3], pollutant: u8, grams: u64)
+pub fn add_grams(totals: &mut [u64; 5], pollutant: u8, grams: u64)
     requires { ⌜ (1 ≤ pollutant) × (pollutant ≤ totalCells) × (grams ≤ mostGrams) × ((i : ℕ) → getD (now totals) i 0 ≤ mostLines * mostGrams) ⌝ }
     ensures { λ _. ⌜ now (totals .exit) ≡ withGrams (now (totals .entry)) pollutant grams ⌝ }
 {

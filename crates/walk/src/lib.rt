@@ -38,7 +38,7 @@ fn refused(f: Fault) -> Walked
             number: f.number,
             place: f.place,
             rows: 0,
-            totals: [0u64; 3],
+            totals: [0u64; 5],
         },
         rows: [0u64; 336],
     }
@@ -60,7 +60,7 @@ fn settle(file: &[u8], conc: &mut [u32], flow: &mut [u32]) -> Walked
     ensures { λ r. ⌜ Settled (now (file .entry)) noRows (r .answer) (r .rows) (now (conc .exit)) (now (flow .exit)) ⌝ }
 {
     let mut rows = [0u64; 336];
-    let mut totals = [0u64; 3];
+    let mut totals = [0u64; 5];
     let w = walk_records(file, &mut rows, &mut totals, conc, flow);
     let f = w.fault;
     if f.number != 0 {

@@ -86,7 +86,7 @@ fn step(
     conc: &mut [u32],
     flow: &mut [u32],
     rows: &mut [u64; 336],
-    totals: &mut [u64; 3],
+    totals: &mut [u64; 5],
 ) -> Progress
     requires { ⌜ Reached (now file) p (inOpen (now runs) (now measured) (now states) (now flags) (now conc) (now flow)) (inDone (now rows) (now totals)) × (p .at < length (now file)) ⌝ }
     ensures { λ q. ⌜ Reached (now (file .entry)) q (inOpen (now (runs .exit)) (now (measured .exit)) (now (states .exit)) (now (flags .exit)) (now (conc .exit)) (now (flow .exit)))
@@ -155,7 +155,7 @@ fn found(p: Progress, end: usize) -> Tally
 pub fn walk_records(
     file: &[u8],
     rows: &mut [u64; 336],
-    totals: &mut [u64; 3],
+    totals: &mut [u64; 5],
     conc: &mut [u32],
     flow: &mut [u32],
 ) -> Tally
