@@ -21,11 +21,11 @@ example =
     ++ replicate 160 0
     ++ (2 ∷ 0 ∷ 6 ∷ 0 ∷ [])
 
--- "1 2 1 126500 4 1 3" and "total 0 126500 0", each with its line feed
+-- "1 2 1 126500 4 1 3" and "total 0 126500 0 0 0", each with its line feed
 unfoldable pub exampleText : List ℕ
 exampleText =
     (49 ∷ 32 ∷ 50 ∷ 32 ∷ 49 ∷ 32 ∷ 49 ∷ 50 ∷ 54 ∷ 53 ∷ 48 ∷ 48 ∷ 32 ∷ 52 ∷ 32 ∷ 49 ∷ 32 ∷ 51 ∷ 10 ∷ [])
-    ++ (116 ∷ 111 ∷ 116 ∷ 97 ∷ 108 ∷ 32 ∷ 48 ∷ 32 ∷ 49 ∷ 50 ∷ 54 ∷ 53 ∷ 48 ∷ 48 ∷ 32 ∷ 48 ∷ 10 ∷ [])
+    ++ (116 ∷ 111 ∷ 116 ∷ 97 ∷ 108 ∷ 32 ∷ 48 ∷ 32 ∷ 49 ∷ 50 ∷ 54 ∷ 53 ∷ 48 ∷ 48 ∷ 32 ∷ 48 ∷ 32 ∷ 48 ∷ 32 ∷ 48 ∷ 10 ∷ [])
 
 -- what is printed; the row, with two cells more that stay as they were; "the fill is 3550 and 1000001", with a cell past 2,208 that stays
 pub record ExampleAgrees : Type 0 where

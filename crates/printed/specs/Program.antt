@@ -16,7 +16,7 @@ unfoldable pub rowLines : List Line → List ℕ
 rowLines [] = []
 rowLines (x ∷ xs) = rowLines xs ++ spaced (rowOf x)
 
--- "then totals for pollutants 1, 2, 3": "total A B C"
+-- "then totals for pollutants 1, 2, 3", now 1 to 5: "total A B C", and two totals more
 unfoldable pub totalLine : List Line → List ℕ
 totalLine lines = totalsLine (totalsOf lines)
 

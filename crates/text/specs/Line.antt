@@ -8,6 +8,6 @@ use Rattle.text.specs.Numbers.{spaced}
 unfoldable pub refusedLine : Fault → List ℕ
 refusedLine f = (114 ∷ 101 ∷ 102 ∷ 117 ∷ 115 ∷ 101 ∷ 100 ∷ 32 ∷ []) ++ spaced (f .number ∷ f .place ∷ [])
 
--- "total A B C"
+-- "total A B C", and two totals more
 unfoldable pub totalsLine : List ℕ → List ℕ
 totalsLine totals = (116 ∷ 111 ∷ 116 ∷ 97 ∷ 108 ∷ 32 ∷ []) ++ spaced totals

@@ -11,7 +11,7 @@ use crate::writing::put_spaced;
 
 mod writing;
 
-// No text is longer: 48 rows of seven numbers, and a line of three.
+// No text is longer: 48 rows of seven numbers, and a line of five.
 const LONGEST: usize = 8192;
 
 // "refused N OFFSET"; 0 where the buffer could be too short.
@@ -43,7 +43,7 @@ fn put_rows(text: &mut [u8], rows: &[u64], n: usize) -> usize
 }
 
 // One line a row, then the totals; 0 where the buffer could be too short, for more than 48 rows, and where one is not there.
-pub fn stated_text(text: &mut [u8], rows: &[u64], n: usize, totals: &[u64; 3]) -> usize
+pub fn stated_text(text: &mut [u8], rows: &[u64], n: usize, totals: &[u64; 5]) -> usize
     ensures { λ r. ⌜ Text (statedLines (now (rows .entry)) n (now (totals .entry))) (now (text .entry)) (now (text .exit)) r ⌝ }
 {
     if text.len() < LONGEST {
