@@ -1,9 +1,10 @@
 -- What the program writes for each of its three calls, by what the face promises.
-use Prim.Native.Nat.{ℕ, _+_, _%_, _^_, _≤_}
+use Prim.Native.Nat.{ℕ, _+_, _*_, _%_, _^_, _≤_}
 use mathlib.Core.List.{List, [], _++_}
 use lib.ListN.{length, replicate}
 use lib.Dec.{eqb}
 use lib.Ieee.{Float, binary32, binary64, ofBits, toBits}
+use Rattle.law.specs.Numbers.{totalCells}
 use Rattle.law.specs.Words.{pick, table}
 use Rattle.text.specs.Written.{Wrote}
 use Rattle.rules.specs.Row.{concentrationCells, flowCells}
@@ -20,7 +21,11 @@ pub record Answered (bytes old new : List ℕ) (end : ℕ) : Type 0 where
 unfoldable pub lentCells : ℕ → ℕ → List ℕ
 lentCells seed n = table (λ i. (seed + i) % 2 ^ 32) n
 
--- "6 u64 .., then every row cell as u64, every concentration cell as u32, every flow cell as u32"
+-- eight bytes for each cell of an answer: number, place, row count and totals
+abbrev pub answerBytes : ℕ
+answerBytes = 8 * (3 + totalCells)
+
+-- "8 u64 .., then every row cell as u64, every concentration cell as u32, every flow cell as u32"
 unfoldable pub leftBytes : List ℕ → List ℕ → List ℕ → List ℕ → List ℕ
 leftBytes answer rows concentrations flows =
     ((cellsBytes u64Bytes answer ++ cellsBytes u64Bytes rows) ++ cellsBytes u32Bytes concentrations) ++ cellsBytes u32Bytes flows

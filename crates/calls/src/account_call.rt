@@ -4,17 +4,17 @@ use crate::lent;
 ghost use Prim.Native.Nat.{_+_, _*_, _≤_, _<_};
 ghost use lib.ListN.{length};
 ghost use Rattle.text.specs.Written.{Wrote};
-ghost use Rattle.calls.specs.Answers.{Answered, lentCells, leftBytes, accountBytes};
+ghost use Rattle.calls.specs.Answers.{Answered, lentCells, answerBytes, leftBytes, accountBytes};
 
 // The answer's cells, and behind them every lent cell.
 fn put_left(
     out: &mut [u8],
-    answer: &[u64; 6],
+    answer: &[u64; 8],
     rows: &[u64],
     concentration: &[u32],
     flow: &[u32],
 ) -> usize
-    requires { ⌜ 48 + 8 * length (now rows) + 4 * length (now concentration) + 4 * length (now flow) ≤ length (now out) ⌝ }
+    requires { ⌜ answerBytes + 8 * length (now rows) + 4 * length (now concentration) + 4 * length (now flow) ≤ length (now out) ⌝ }
     ensures { λ r. ⌜ Wrote (now (out .entry)) 0 (leftBytes (now (answer .entry)) (now (rows .entry)) (now (concentration .entry)) (now (flow .entry))) (now (out .exit)) r ⌝ }
 {
     let a = bytes::put_u64s(out, 0, answer);
@@ -33,14 +33,14 @@ pub fn answer(
     out: &mut [u8],
 ) -> usize
     requires { ⌜ (length (now rows) < 4_294_967_296) × (length (now concentration) < 4_294_967_296) × (length (now flow) < 4_294_967_296)
-        × (48 + 8 * length (now rows) + 4 * length (now concentration) + 4 * length (now flow) ≤ length (now out)) ⌝ }
+        × (answerBytes + 8 * length (now rows) + 4 * length (now concentration) + 4 * length (now flow) ≤ length (now out)) ⌝ }
     ensures { λ r. ⌜ Answered (accountBytes (now (file .entry)) (lentCells seed (length (now (rows .entry))))
         (lentCells seed (length (now (concentration .entry)))) (lentCells seed (length (now (flow .entry))))) (now (out .entry)) (now (out .exit)) r ⌝ }
 {
     lent::fill_u64s(rows, seed);
     lent::fill_u32s(concentration, seed);
     lent::fill_u32s(flow, seed);
-    let mut cells = [0u64; 6];
+    let mut cells = [0u64; 8];
     doarpezwim::doarpezwim_account(file, rows, concentration, flow, &mut cells);
     put_left(out, &cells, rows, concentration, flow)
 }

@@ -53,7 +53,7 @@ fn account_of(h: Header, file: &[u8], out: &mut [u8]) -> usize
     if l > 4096 {
         return 0;
     }
-    if out.len() < 48 + 8 * r + 4 * c + 4 * l {
+    if out.len() < 64 + 8 * r + 4 * c + 4 * l {
         return 0;
     }
     account_call::answer(

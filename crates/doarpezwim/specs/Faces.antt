@@ -16,7 +16,7 @@ use Rattle.panel.specs.declared.Panel.{Panel}
 use Rattle.panel.specs.declared.Stepped.{Stepped}
 use Rattle.panel.specs.Panel.{unchanged, panelStep}
 
--- the six cells of an answer: "number and place (both 0 on acceptance), row count and three totals"
+-- the eight cells of an answer: "number and place (both 0 on acceptance), row count and" the "five totals"
 unfoldable pub answerCells : Answer → List ℕ
 answerCells a = a .number ∷ a .place ∷ a .rows ∷ table (λ i. getD (a .totals) i 0) totalCells
 

@@ -5,8 +5,8 @@ ghost use Rattle.doarpezwim.specs.Faces.{answerCells, hourOfKind};
 use reading::Hour;
 use rules::Answer;
 
-// The answer goes out in six cells, so that no caller depends on how a struct lies in memory.
-pub fn answer_cells(a: Answer) -> [u64; 6]
+// The answer goes out in eight cells, so that no caller depends on how a struct lies in memory.
+pub fn answer_cells(a: Answer) -> [u64; 8]
     ensures { λ r. ⌜ r ≡ answerCells a ⌝ }
 {
     let totals = a.totals;
@@ -17,6 +17,8 @@ pub fn answer_cells(a: Answer) -> [u64; 6]
         totals[0],
         totals[1],
         totals[2],
+        totals[3],
+        totals[4],
     ]
 }
 

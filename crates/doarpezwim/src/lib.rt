@@ -11,7 +11,7 @@ pub extern "C" fn doarpezwim_account(
     rows: &mut [u64],
     concentration: &mut [u32],
     flow: &mut [u32],
-    answer: &mut [u64; 6],
+    answer: &mut [u64; 8],
 ) -> u32
     ensures { λ r. ⌜ AccountFace (now (file .entry)) (now (rows .entry)) (now (concentration .entry)) (now (flow .entry))
         r (now (answer .exit)) (now (rows .exit)) (now (concentration .exit)) (now (flow .exit)) ⌝ }
