@@ -30,6 +30,16 @@ static void print_row(const uint64_t *row)
     putchar('\n');
 }
 
+/* The totals are the last cells of an answer. */
+static void print_totals(const uint64_t *answer)
+{
+    printf("total");
+    for (int cell = DOARPEZWIM_ANSWER_SULPHUR_DIOXIDE; cell < DOARPEZWIM_ANSWER_CELLS; cell++) {
+        printf(" %" PRIu64, answer[cell]);
+    }
+    putchar('\n');
+}
+
 static void print_refusal(uint32_t number, uint64_t place)
 {
     printf("refused %" PRIu32 " %" PRIu64 "\n", number, place);
@@ -53,7 +63,6 @@ int main(void)
     for (uint64_t row = 0; row < answer[DOARPEZWIM_ANSWER_ROWS]; row++) {
         print_row(rows + DOARPEZWIM_ROW_CELLS * row);
     }
-    printf("total %" PRIu64 " %" PRIu64 " %" PRIu64 "\n", answer[DOARPEZWIM_ANSWER_SULPHUR_DIOXIDE],
-           answer[DOARPEZWIM_ANSWER_NITROGEN_OXIDES], answer[DOARPEZWIM_ANSWER_DUST]);
+    print_totals(answer);
     return 0;
 }

@@ -19,9 +19,9 @@ extern "C" {
 #endif
 
 #define DOARPEZWIM_VERSION_MAJOR 0
-#define DOARPEZWIM_VERSION_MINOR 3
+#define DOARPEZWIM_VERSION_MINOR 4
 #define DOARPEZWIM_VERSION_PATCH 0
-#define DOARPEZWIM_VERSION "0.3.0"
+#define DOARPEZWIM_VERSION "0.4.0"
 
 /* Cells that each work slice has to have: the hours of 92 days. */
 #define DOARPEZWIM_WORK_CELLS 2208
@@ -30,7 +30,7 @@ extern "C" {
 /* Lines that a file may hold; a line gives a row. */
 #define DOARPEZWIM_MOST_LINES 48
 /* Cells of an answer, as enum doarpezwim_answer_cell names them. */
-#define DOARPEZWIM_ANSWER_CELLS 6
+#define DOARPEZWIM_ANSWER_CELLS 8
 /* Bytes of a survey record. */
 #define DOARPEZWIM_SURVEY_BYTES 14
 
@@ -90,20 +90,22 @@ static inline const char *doarpezwim_refusal_text(uint32_t number)
     }
 }
 
-/* The cells of an answer: totals are grams, over all rows. */
+/* The cells of an answer: totals are grams, over all rows; 0 for a pollutant that no row has. */
 enum doarpezwim_answer_cell {
     DOARPEZWIM_ANSWER_NUMBER = 0,
     DOARPEZWIM_ANSWER_PLACE = 1,
     DOARPEZWIM_ANSWER_ROWS = 2,
     DOARPEZWIM_ANSWER_SULPHUR_DIOXIDE = 3,
     DOARPEZWIM_ANSWER_NITROGEN_OXIDES = 4,
-    DOARPEZWIM_ANSWER_DUST = 5
+    DOARPEZWIM_ANSWER_DUST = 5,
+    DOARPEZWIM_ANSWER_CHEMICAL_OXYGEN_DEMAND = 6,
+    DOARPEZWIM_ANSWER_AMMONIA_NITROGEN = 7
 };
 
 /* The cells of a row. */
 enum doarpezwim_row_cell {
     DOARPEZWIM_ROW_STACK = 0,
-    /* 1 sulphur dioxide, 2 nitrogen oxides, 3 dust. */
+    /* 1 sulphur dioxide, 2 nitrogen oxides, 3 dust, 4 chemical oxygen demand, 5 ammonia nitrogen. */
     DOARPEZWIM_ROW_POLLUTANT = 1,
     /* 1 automatic, 2 manual, 3 mass balance, 4 coefficient. */
     DOARPEZWIM_ROW_METHOD = 2,
@@ -118,10 +120,11 @@ enum doarpezwim_row_cell {
 /*
  * States the account of a record file of any length.
  *
- * answer: number, place, row count, and the grams of sulphur dioxide, nitrogen oxides and dust. The number is returned
- * as well. It is 0 if the file is accepted, and so is the place. Else it is 1, 2, 4 to 9 or 14 to 17, and row count and
- * grams are 0. The place is a byte offset in the file: for 4 and 14 to 17 that of the first wrong field or reading, for
- * 1, 2, 5, 6 and 7 that of the record at fault (the file's length if the file ends inside a line), for 8 and 9 it is 0.
+ * answer: number, place, row count, and the grams of sulphur dioxide, nitrogen oxides, dust, chemical oxygen demand and
+ * ammonia nitrogen. The number is returned as well. It is 0 if the file is accepted, and so is the place. Else it is 1,
+ * 2, 4 to 9 or 14 to 17, and row count and grams are 0. The place is a byte offset in the file: for 4 and 14 to 17 that
+ * of the first wrong field or reading, for 1, 2, 5, 6 and 7 that of the record at fault (the file's length if the file
+ * ends inside a line), for 8 and 9 it is 0.
  *
  * rows: accepted rows stand at its start in line order, seven cells each; the cells past them, and all cells after a
  * refusal, stay as they were. 7 x 48 cells are always enough.

@@ -61,7 +61,7 @@ impl Call for AccountCall {
     }
 
     fn read(&self, output: &mut impl Read) -> io::Result<Outcome> {
-        let mut answer = [0; 6];
+        let mut answer = [0; 8];
         for cell in &mut answer {
             *cell = u64::from_le_bytes(read_array(output)?);
         }

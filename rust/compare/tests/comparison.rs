@@ -49,10 +49,11 @@ fn passes_answers_of_the_reference() {
 /// The first cell and the last one of each part of an answer, and the cells about the quarter's end.
 #[test]
 fn fails_on_a_changed_account() {
-    let (rows, work) = (48, 48 + 8 * 21);
+    let (rows, work) = (64, 64 + 8 * 21);
     let cells = [0, 2_207, 2_208, 2_210].map(|hour| work + 4 * hour);
     let flows = cells.map(|byte| byte + 4 * 2_211);
-    let bytes = [0, 8, 16, 24, 32, 40, rows, rows + 48, rows + 56, work - 1].into_iter().chain(cells).chain(flows);
+    let bytes =
+        [0, 8, 16, 24, 32, 40, 48, 56, rows, rows + 48, rows + 56, work - 1].into_iter().chain(cells).chain(flows);
     for byte in bytes {
         let call = byte % CALLS;
         let why = accounts(&flip(call, byte)).expect_err("a changed byte is found");

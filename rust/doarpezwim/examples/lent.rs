@@ -11,7 +11,7 @@ fn account(case: Case, rng: &mut Rng) -> u32 {
     let mut rows = rng.garbage_u64(case.rows).into_boxed_slice();
     let mut concentration = rng.garbage_u32(case.concentration).into_boxed_slice();
     let mut flow = rng.garbage_u32(case.flow).into_boxed_slice();
-    let mut answer = Box::new([0; 6]);
+    let mut answer = Box::new([0; doarpezwim::ANSWER_CELLS]);
     // SAFETY: every pointer comes with the length of its own block.
     unsafe {
         ffi::doarpezwim_account(

@@ -2,9 +2,9 @@
 
 use std::fmt;
 
-use crate::{MOST_LINES, Pollutant, ROW_CELLS, Refusal, Row, WORK_CELLS, ffi};
+use crate::{ANSWER_CELLS, MOST_LINES, Pollutant, ROW_CELLS, Refusal, Row, WORK_CELLS, ffi};
 
-/// Grams of each pollutant, over all rows.
+/// Grams of each pollutant, over all rows; 0 of one that no row has.
 #[derive(Clone, Copy, Debug, Default, PartialEq, Eq, Hash)]
 pub struct Totals {
     /// Grams of sulphur dioxide.
@@ -13,6 +13,10 @@ pub struct Totals {
     pub nitrogen_oxides: u64,
     /// Grams of dust.
     pub dust: u64,
+    /// Grams of chemical oxygen demand.
+    pub chemical_oxygen_demand: u64,
+    /// Grams of ammonia nitrogen.
+    pub ammonia_nitrogen: u64,
 }
 
 impl Totals {
@@ -23,14 +27,16 @@ impl Totals {
             Pollutant::SulphurDioxide => self.sulphur_dioxide,
             Pollutant::NitrogenOxides => self.nitrogen_oxides,
             Pollutant::Dust => self.dust,
+            Pollutant::ChemicalOxygenDemand => self.chemical_oxygen_demand,
+            Pollutant::AmmoniaNitrogen => self.ammonia_nitrogen,
         }
     }
 }
 
 impl fmt::Display for Totals {
     fn fmt(&self, text: &mut fmt::Formatter) -> fmt::Result {
-        let Totals { sulphur_dioxide, nitrogen_oxides, dust } = self;
-        write!(text, "total: {sulphur_dioxide} g sulphur dioxide, {nitrogen_oxides} g nitrogen oxides, {dust} g dust")
+        let grams = Pollutant::ALL.map(|pollutant| format!("{} g {pollutant}", self.of(pollutant)));
+        write!(text, "total: {}", grams.join(", "))
     }
 }
 
@@ -134,7 +140,7 @@ pub fn account_into<'a>(
     concentration: &mut [u32],
     flow: &mut [u32],
 ) -> Result<Stated<'a>, Refusal> {
-    let mut answer = [0; 6];
+    let mut answer = [0; ANSWER_CELLS];
     // SAFETY: each pointer comes with the length of its slice, and the borrows keep the four mutable ones apart.
     let number = unsafe {
         ffi::doarpezwim_account(
@@ -149,11 +155,12 @@ pub fn account_into<'a>(
             &mut answer,
         )
     };
-    let [_, place, count, sulphur_dioxide, nitrogen_oxides, dust] = answer;
+    let [_, place, count, sulphur_dioxide, nitrogen_oxides, dust, chemical_oxygen_demand, ammonia_nitrogen] = answer;
     if number != 0 {
         return Err(Refusal::of_account(number, place as usize));
     }
     // As many rows were written as there are lines, and there was room for them.
     let cells = &rows.as_chunks().0[..count as usize];
-    Ok(Stated { cells, totals: Totals { sulphur_dioxide, nitrogen_oxides, dust } })
+    let totals = Totals { sulphur_dioxide, nitrogen_oxides, dust, chemical_oxygen_demand, ammonia_nitrogen };
+    Ok(Stated { cells, totals })
 }

@@ -3,6 +3,8 @@
 //! `include/doarpezwim.h` says what each call takes and answers. No pointer is null, each is aligned for its type, a
 //! length counts elements, and what is written to overlaps no other argument.
 
+use crate::ANSWER_CELLS;
+
 unsafe extern "C" {
     /// The call behind [`account_into`](crate::account_into); returns the refusal number, or 0.
     ///
@@ -17,7 +19,7 @@ unsafe extern "C" {
         concentration_len: usize,
         flow: *mut u32,
         flow_len: usize,
-        answer: *mut [u64; 6],
+        answer: *mut [u64; ANSWER_CELLS],
     ) -> u32;
 
     /// The call behind [`Panel::hour`](crate::Panel::hour); returns the refusal number, or 0.

@@ -35,6 +35,8 @@ pub use survey::governing_survey;
 
 /// Cells that each work slice has to have: the hours of 92 days.
 pub const WORK_CELLS: usize = 2_208;
+/// Cells of an answer: number, place, row count, and the grams of each of the five pollutants.
+pub const ANSWER_CELLS: usize = 8;
 /// Cells of one row: stack, pollutant, method, grams, running, missing, first missing hour plus 1.
 pub const ROW_CELLS: usize = 7;
 /// Lines that a file may hold; a line gives a row.

@@ -13,9 +13,22 @@ pub enum Pollutant {
     NitrogenOxides = 2,
     /// 3
     Dust = 3,
+    /// 4
+    ChemicalOxygenDemand = 4,
+    /// 5
+    AmmoniaNitrogen = 5,
 }
 
 impl Pollutant {
+    /// All of them, in the order of their numbers.
+    pub const ALL: [Pollutant; 5] = [
+        Pollutant::SulphurDioxide,
+        Pollutant::NitrogenOxides,
+        Pollutant::Dust,
+        Pollutant::ChemicalOxygenDemand,
+        Pollutant::AmmoniaNitrogen,
+    ];
+
     /// The number that a record file and a row's cell have for it.
     #[must_use]
     pub fn number(self) -> u8 {
@@ -23,9 +36,7 @@ impl Pollutant {
     }
 
     fn of_number(number: u64) -> Option<Self> {
-        [Pollutant::SulphurDioxide, Pollutant::NitrogenOxides, Pollutant::Dust]
-            .into_iter()
-            .find(|known| u64::from(known.number()) == number)
+        Pollutant::ALL.into_iter().find(|known| u64::from(known.number()) == number)
     }
 }
 
@@ -35,6 +46,8 @@ impl fmt::Display for Pollutant {
             Pollutant::SulphurDioxide => "sulphur dioxide",
             Pollutant::NitrogenOxides => "nitrogen oxides",
             Pollutant::Dust => "dust",
+            Pollutant::ChemicalOxygenDemand => "chemical oxygen demand",
+            Pollutant::AmmoniaNitrogen => "ammonia nitrogen",
         })
     }
 }
@@ -137,11 +150,15 @@ mod tests {
         assert_eq!(row.to_string(), text);
         let whole = Row::of_cells(&[65_535, 3, 4, 0, 0, 0, 0]).expect("cells of a row");
         assert_eq!((whole.stack, whole.first_missing_hour), (65_535, None));
+        for pollutant in Pollutant::ALL {
+            let row = Row::of_cells(&[1, pollutant.number().into(), 1, 0, 0, 0, 0]).expect("cells of a row");
+            assert_eq!(row.pollutant, pollutant);
+        }
     }
 
     #[test]
     fn passes_over_what_is_no_row() {
-        let no_rows = [[65_536, 1, 1, 0, 0, 0, 0], [1, 0, 1, 0, 0, 0, 0], [1, 4, 1, 0, 0, 0, 0], [1, 1, 5, 0, 0, 0, 0]];
+        let no_rows = [[65_536, 1, 1, 0, 0, 0, 0], [1, 0, 1, 0, 0, 0, 0], [1, 6, 1, 0, 0, 0, 0], [1, 1, 5, 0, 0, 0, 0]];
         for cells in no_rows {
             assert_eq!(Row::of_cells(&cells), None, "{cells:?}");
         }

@@ -10,12 +10,10 @@ const CALLS: usize = 2_000;
 /// Accounts by the wrapper, and puts its typed answer back into cells.
 fn outcome(file: &[u8], mut rows: Vec<u64>, mut concentration: Vec<u32>, mut flow: Vec<u32>) -> Outcome {
     let answer = match account_into(file, &mut rows, &mut concentration, &mut flow) {
-        Err(refusal) => [u64::from(refusal.number()), refusal.place().unwrap_or(0) as u64, 0, 0, 0, 0],
+        Err(refusal) => [u64::from(refusal.number()), refusal.place().unwrap_or(0) as u64, 0, 0, 0, 0, 0, 0],
         Ok(stated) => {
-            let of = |pollutant| stated.totals().of(pollutant);
-            let [first, second, third] =
-                [Pollutant::SulphurDioxide, Pollutant::NitrogenOxides, Pollutant::Dust].map(of);
-            [0, 0, stated.rows().len() as u64, first, second, third]
+            let [first, second, third, fourth, fifth] = Pollutant::ALL.map(|pollutant| stated.totals().of(pollutant));
+            [0, 0, stated.rows().len() as u64, first, second, third, fourth, fifth]
         }
     };
     Outcome { answer, rows, concentration, flow }
@@ -60,8 +58,8 @@ fn states_the_sample_quarter() {
             numbers.into_iter().chain(hours.map(u64::from)).map(|field| field.to_string()).collect();
         text += &(fields.join(" ") + "\n");
     }
-    let totals = account.totals;
-    text += &format!("total {} {} {}\n", totals.sulphur_dioxide, totals.nitrogen_oxides, totals.dust);
+    let totals = Pollutant::ALL.map(|pollutant| account.totals.of(pollutant).to_string());
+    text += &format!("total {}\n", totals.join(" "));
     assert_eq!(text, printed);
     assert_eq!(account.rows.iter().map(|row| row.method).max(), Some(Method::Coefficient));
 }
