@@ -94,7 +94,7 @@ zeros() { head -c "$1" /dev/zero; }
 change() { bytes "$1" "$2" 0 && printf '%b' "$3" && tail -c +$(($2 + $(printf '%b' "$3" | wc -c) + 1)) "$1"; } # BASE OFFSET BYTES
 before_end() { bytes "$example" 219 0 && printf '%b' "$1" && bytes "$example" 223 219; } # BYTES: the example with these records
 example=$home/samples/example.rec stated=$home/samples/example.out
-printf 'total 0 0 0\n' >"$room/zero.out" && printf 'refused 14 9\n' >"$room/coal.out"
+printf 'total 0 0 0 0 0\n' >"$room/zero.out" && printf 'refused 14 9\n' >"$room/coal.out"
 usage_text=$room/usage.out && launch help >"$usage_text"
 : >"$room/empty" && cp "$example" "$room/a name.rec" && cp "$example" "$room/-name.rec" && mkdir "$room/folder"
 ln -s "$launcher" "$room/a link" && ln -s "a link" "$room/link"
