@@ -41,7 +41,7 @@ module _ (file rows conc flow : List ℕ) (a : Answer) (rows' conc' flow' : List
       let said : refuse (a .number) (a .place) ≡ d .fault = ap (λ (b : Answer). refuse (b .number) (b .place)) (d .answers) in
       ap refusedLine said ∙ ap printedFrom (sym (d .refused))
 
-  pub answer-stated : a .number ≡ 0 → length rows' ≡ mostCells → statedLines rows' (a .rows) (a .totals) ≡ printedFrom (outcome file)
+  answer-stated : a .number ≡ 0 → length rows' ≡ mostCells → statedLines rows' (a .rows) (a .totals) ≡ printedFrom (outcome file)
   unfolding printedFrom statedText totalLine acceptance
   answer-stated z l =
       let s = stated file rows a rows' conc flow conc' flow' p z in
@@ -50,6 +50,11 @@ module _ (file rows conc flow : List ℕ) (a : Answer) (rows' conc' flow' : List
       ap₂ (λ (b : Answer) (c : List ℕ). statedText c (b .rows) (b .totals)) (s .answers) (s .leaves)
       ∙ ap (λ (t : List ℕ). t ++ totalLine (s .lines)) (rows-text (s .lines) _) in
       sym (all-there rows' (a .rows) (a .totals) few (omega (arith, few, l))) ∙ said ∙ ap printedFrom (sym (s .accepted))
+
+  -- the totals that are handed on are a premise, so that other ones are named where this is refused
+  pub text-stated : (totals old new : List ℕ) (r : ℕ) → Text (statedLines rows' (a .rows) totals) old new r → totals ≡ a .totals → a .number ≡ 0 → length rows' ≡ mostCells
+      → Text (printedFrom (outcome file)) old new r × (r ≤ length new)
+  text-stated totals old new r t e z l = text-of _ _ old new r (ap (statedLines rows' (a .rows)) e ∙ answer-stated z l) t
 
 -- ---- 13 comes first
 pub over-long : (input : List ℕ) → 65_536 < length input → refusedLine (refuse 13 0) ≡ printed input

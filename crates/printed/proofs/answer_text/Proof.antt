@@ -1,7 +1,7 @@
 -- `printed::answer_text` meets its contract: what is written is the definition's text of the file. Assumes nothing.
 use mathlib.Core.Path.{refl}
 use borrow.Author.Needs.{needs}
-use Rattle.printed.proofs.Texts.{text-of, answer-refused, answer-stated}
+use Rattle.printed.proofs.Texts.{text-of, answer-refused, text-stated}
 use Rattle.printed.proofs.answer_text.Statement.{statement}
 use Rattle.printed.proofs.answer_text.Tie as tie
 
@@ -47,7 +47,7 @@ returns-2 c =
     let w = c .before .before in
     let t = w .before .before .before .before .before in
     let a = t .before .before .before .before .before in
-    text-of _ _ _ _ _ (answer-stated _ _ _ _ _ _ _ _ (a .account .ensures) (t .if1 .left) (a .account .kept .1 .0)) (w .stated-text .ensures)
+    text-stated _ _ _ _ _ _ _ _ (a .account .ensures) _ _ _ _ (w .stated-text .ensures) refl (t .if1 .left) (a .account .kept .1 .0)
 
 pub answer-text-spec : {M : Type 1} → statement M
 answer-text-spec =
