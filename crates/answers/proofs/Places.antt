@@ -16,7 +16,7 @@ use Rattle.rules.specs.declared.Fault.{Fault}
 use Rattle.rules.specs.declared.View.{View}
 use Rattle.rules.specs.Records.{recordIn, sizeIn, Placed, recordsFrom, recordsOf}
 use Rattle.rules.specs.Judge.{refuse, fine, judge, atPlace}
-use Rattle.rules.specs.Walk.{Stand, Between, Inside, viewOf, runsOf, taken, Outcome, Refused, Accepted, ended, faultOf, walk, outcome}
+use Rattle.rules.specs.Walk.{Stand, Between, Inside, InWater, viewOf, runsOf, taken, Outcome, Refused, Accepted, ended, faultOf, walk, outcome}
 use Rattle.rules.specs.Account.{Promise}
 use Rattle.rules.proofs.Faults.{at-place-number, at-place-refused}
 use Rattle.answers.proofs.Answers.{answer-case}
@@ -40,6 +40,7 @@ module _ (file : List ℕ) where
   unfolding walk ended faultBy refuse fine ofField standBehind
   stops-at [] (Between done) = λ o. absurd (let z : _≡_ {A = ℕ} 0 1 = cc in omega arith)
   stops-at [] (Inside x done) = λ o. absurd (let z : _≡_ {A = ℕ} 0 1 = cc in omega arith)
+  stops-at [] (InWater x done) = λ o. absurd (let z : _≡_ {A = ℕ} 0 1 = cc in omega arith)
   stops-at (p ∷ more) stand =
       pick-case (λ (o : Outcome). ofField (faultBy o .number) ≡ true → StopsAt stand (p ∷ more) (faultBy o)) (eqb (faultOf stand p .number) 0) _ _
       (λ _ o. further (stops-at more (taken stand (p .bytes) (recordIn (p .bytes))) o))

@@ -17,14 +17,15 @@ use Rattle.rules.specs.declared.Fault.{Fault}
 use Rattle.rules.specs.declared.Survey.{Survey}
 use Rattle.rules.specs.declared.View.{View}
 use Rattle.rules.specs.declared.Record.{Record}
-use Rattle.rules.specs.declared.Record.the-variants.{Bad, OfHead, OfDay, OfEnforcement, OfPlant, OfBatch, OfEnd}
+use Rattle.rules.specs.declared.Record.the-variants.{Bad, OfHead, OfDay, OfEnforcement, OfPlant, OfBatch, OfEnd, OfWater}
+use Rattle.rules.specs.declared.Water.the-variants.{OfOutfallHead, OfOutfallDay, OfOutfallEnforcement, OfOutfallPlant}
 use Rattle.rules.specs.Records.{Day, dayOf, Placed, recordIn, recordsOf}
 use Rattle.rules.specs.Hours.{bit, runMasks, runsAt}
 use Rattle.rules.specs.Lines.{StackLine, surveyed, daysAfter}
 use Rattle.rules.specs.Outfalls.{OutfallLine, Line, OfStack, OfOutfall}
 use Rattle.rules.specs.Alone.{noneMissing, daysAlone}
 use Rattle.rules.specs.Judge.{refuse, fine, first, placeEnforcement, placePlant, judgeStopped, judgeSurvey, judgeRecord}
-use Rattle.rules.specs.Walk.{Stand, Between, Inside, viewOf, runsOf, begun, withDay, withEnforcement, withPlant, withBatch, taken, takenBetween, takenInside, Outcome, Refused, Accepted, ended, faultOf, walk, outcome}
+use Rattle.rules.specs.Walk.{Stand, Between, Inside, InWater, viewOf, runsOf, begun, withDay, withEnforcement, withPlant, withBatch, taken, takenBetween, takenInside, takenInWater, waterBetween, waterInside, Outcome, Refused, Accepted, ended, faultOf, walk, outcome}
 use Rattle.rules.proofs.Faults.{first-goes, first-passed}
 use Rattle.rules.proofs.Alone.{InRunning, SurveysRun, nothing-else}
 use Rattle.answers.proofs.Walks.{passed-record}
@@ -64,9 +65,10 @@ LineRuns (OfOutfall x) = Unit
 unfoldable Runs : Stand → Type 0
 Runs (Between done) = Each LineRuns done
 Runs (Inside x done) = SurveysRun x × Each LineRuns done
+Runs (InWater x done) = Each LineRuns done
 
 runs-on : (stand : Stand) (bytes : List ℕ) (r : Record) → Runs stand → judgeRecord (viewOf stand) (runsOf stand) r .number ≡ 0 → Runs (taken stand bytes r)
-unfolding Runs LineRuns taken takenBetween takenInside judgeRecord runsOf begun withDay withEnforcement withPlant withBatch runMasks
+unfolding Runs LineRuns taken takenBetween takenInside takenInWater waterBetween waterInside judgeRecord runsOf begun withDay withEnforcement withPlant withBatch runMasks
 runs-on (Between done) bytes Bad k z = k
 runs-on (Between done) bytes (OfHead h) k z = (record { enforcement = each-none; plant = each-none }, k)
 runs-on (Between done) bytes (OfDay m) k z = k
@@ -74,17 +76,33 @@ runs-on (Between done) bytes (OfEnforcement s) k z = k
 runs-on (Between done) bytes (OfPlant s) k z = k
 runs-on (Between done) bytes (OfBatch b) k z = k
 runs-on (Between done) bytes OfEnd k z = k
+runs-on (Between done) bytes (OfWater (OfOutfallHead o)) k z = k
+runs-on (Between done) bytes (OfWater (OfOutfallDay d)) k z = k
+runs-on (Between done) bytes (OfWater (OfOutfallEnforcement s)) k z = k
+runs-on (Between done) bytes (OfWater (OfOutfallPlant s)) k z = k
 runs-on (Inside x done) bytes Bad k z = k
 runs-on (Inside x done) bytes (OfHead h) k z = k
 runs-on (Inside x done) bytes (OfDay m) k z =
     let on = day-more (runMasks (x .days)) (dayOf bytes .masks .run ∷ []) in
     (record { enforcement = each-so _ _ on (k .0 .enforcement); plant = each-so _ _ on (k .0 .plant) }, k .1)
 runs-on (Inside x done) bytes (OfEnforcement s) k z =
-    (record { enforcement = each-more (survey-runs (placeEnforcement (viewOf (Inside x done)) s) _ (runMasks (x .days)) s z) (k .0 .enforcement); plant = k .0 .plant }, k .1)
+    (record { enforcement = each-more (survey-runs (placeEnforcement (viewOf (Inside x done) .inside) (viewOf (Inside x done)) s) _ (runMasks (x .days)) s z) (k .0 .enforcement); plant = k .0 .plant }, k .1)
 runs-on (Inside x done) bytes (OfPlant s) k z =
-    (record { enforcement = k .0 .enforcement; plant = each-more (survey-runs (placePlant (viewOf (Inside x done)) s) _ (runMasks (x .days)) s z) (k .0 .plant) }, k .1)
+    (record { enforcement = k .0 .enforcement; plant = each-more (survey-runs (placePlant (viewOf (Inside x done) .inside) (viewOf (Inside x done)) s) _ (runMasks (x .days)) s z) (k .0 .plant) }, k .1)
 runs-on (Inside x done) bytes (OfBatch b) k z = (record { enforcement = k .0 .enforcement; plant = k .0 .plant }, k .1)
 runs-on (Inside x done) bytes OfEnd k z = each-more (k .0) (k .1)
+runs-on (Inside x done) bytes (OfWater w) k z = k
+runs-on (InWater x done) bytes Bad k z = k
+runs-on (InWater x done) bytes (OfHead h) k z = k
+runs-on (InWater x done) bytes (OfDay m) k z = k
+runs-on (InWater x done) bytes (OfEnforcement s) k z = k
+runs-on (InWater x done) bytes (OfPlant s) k z = k
+runs-on (InWater x done) bytes (OfBatch b) k z = k
+runs-on (InWater x done) bytes OfEnd k z = each-more tt k
+runs-on (InWater x done) bytes (OfWater (OfOutfallHead o)) k z = k
+runs-on (InWater x done) bytes (OfWater (OfOutfallDay d)) k z = k
+runs-on (InWater x done) bytes (OfWater (OfOutfallEnforcement s)) k z = k
+runs-on (InWater x done) bytes (OfWater (OfOutfallPlant s)) k z = k
 
 -- ---- the lines of a file
 unfoldable linesIn : Outcome → List Line
@@ -95,6 +113,7 @@ walk-runs : (file : List ℕ) (ps : List Placed) (stand : Stand) → Runs stand 
 unfolding walk ended linesIn Runs
 walk-runs file [] (Between done) k = k
 walk-runs file [] (Inside x done) k = each-none
+walk-runs file [] (InWater x done) k = each-none
 walk-runs file (p ∷ more) stand k =
     let r = recordIn (p .bytes) in
     pick-case (λ (o : Outcome). Each LineRuns (linesIn o)) (eqb (faultOf stand p .number) 0) (walk file more (taken stand (p .bytes) r)) (Refused (faultOf stand p))

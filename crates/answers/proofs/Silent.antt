@@ -12,7 +12,7 @@ use Rattle.rules.specs.declared.View.{View}
 use Rattle.rules.specs.declared.Coefficients.{Coefficients}
 use Rattle.rules.specs.declared.Coefficients.the-variants.{Balance, Oxides, Dust, NoEntry}
 use Rattle.rules.specs.OnPaper.{recordOnPaper, coefficientsOnPaper}
-use Rattle.rules.specs.Judge.{refuse, fine, first, blamed, judgeStopped, judgeEntry, judgeFuel}
+use Rattle.rules.specs.Judge.{refuse, fine, first, blamed, judgeStopped, judgeEntry, judgeFuel, judgeStoppedDay, judgeMethod}
 use Rattle.answers.specs.Places.{ofField}
 
 -- ---- numbers that records are refused with beside those of their fields; Q holds of none of them, nor of 0
@@ -23,6 +23,7 @@ pub record Quiet (Q : ℕ → Bool) : Type 0 where
   pub five : Q 5 ≡ false
   pub six : Q 6 ≡ false
   pub seven : Q 7 ≡ false
+  pub eighteen : Q 18 ≡ false
 
 module _ (Q : ℕ → Bool) (quiet : Quiet Q) where
   abbrev pub Silent : Fault → Type 0
@@ -54,6 +55,10 @@ module _ (Q : ℕ → Bool) (quiet : Quiet Q) where
   unfolding judgeStopped
   silent-stopped runs hour = silent-need 5 0 _ _ (quiet .five) silent-fine
 
+  pub silent-stopped-day : (states : List ℕ) (day : ℕ) → Silent (judgeStoppedDay states day)
+  unfolding judgeStoppedDay
+  silent-stopped-day states day = silent-need 5 0 _ _ (quiet .five) silent-fine
+
   silent-entry : (entry : Coefficients) → Silent (judgeEntry entry)
   unfolding judgeEntry blamed need refuse fine coefficientsOnPaper
   silent-entry (Balance q k) = quiet .zero
@@ -61,10 +66,14 @@ module _ (Q : ℕ → Bool) (quiet : Quiet Q) where
   silent-entry (Dust a b) = quiet .zero
   silent-entry NoEntry = quiet .seven
 
-  pub silent-fuel : (v : View) → Silent (judgeFuel v)
+  silent-fuel : (v : View) → Silent (judgeFuel v)
   unfolding judgeFuel
   silent-fuel v = pick-case Silent _ _ _ (λ _. silent-fine) (λ _. silent-need 6 0 _ _ (quiet .six) (silent-entry _))
 
+  pub silent-method : (v : View) → Silent (judgeMethod v)
+  unfolding judgeMethod
+  silent-method v = pick-case Silent _ _ _ (λ _. silent-need 18 0 _ _ (quiet .eighteen) silent-fine) (λ _. silent-fuel v)
+
 pub quiet-fields : Quiet ofField
 unfolding ofField
-quiet-fields = record { zero = refl; one = refl; two = refl; five = refl; six = refl; seven = refl }
+quiet-fields = record { zero = refl; one = refl; two = refl; five = refl; six = refl; seven = refl; eighteen = refl }

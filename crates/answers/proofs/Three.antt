@@ -11,17 +11,19 @@ use Rattle.rules.specs.declared.Answer.{Answer}
 use Rattle.rules.specs.declared.Fault.{Fault}
 use Rattle.rules.specs.declared.Survey.{Survey}
 use Rattle.rules.specs.declared.Record.{Record}
-use Rattle.rules.specs.declared.Record.the-variants.{Bad, OfHead, OfDay, OfEnforcement, OfPlant, OfBatch, OfEnd}
+use Rattle.rules.specs.declared.Record.the-variants.{Bad, OfHead, OfDay, OfEnforcement, OfPlant, OfBatch, OfEnd, OfWater}
+use Rattle.rules.specs.declared.Water.{Water}
+use Rattle.rules.specs.declared.Water.the-variants.{OfOutfallHead, OfOutfallDay, OfOutfallEnforcement, OfOutfallPlant}
 use Rattle.rules.specs.declared.View.{View}
 use Rattle.rules.specs.Records.{dayOf, recordIn, Placed, recordsOf}
 use Rattle.rules.specs.Fields.{Field, fits}
-use Rattle.rules.specs.Judge.{refuse, fine, first, firstWrong, placeHead, rangeHead, placeDay, rangeMasks, placeEnforcement, placePlant, judgeSurvey, placeBatch, rangeBatch, placeEnd, judgeRecord, judgeReadings, judgeHours, judge}
-use Rattle.rules.specs.Walk.{Stand, Between, Inside, viewOf, runsOf, taken, Outcome, Refused, ended, faultOf, walk, outcome}
+use Rattle.rules.specs.Judge.{refuse, fine, first, firstWrong, placeHead, rangeHead, placeDay, rangeMasks, placeEnforcement, placePlant, judgeSurvey, placeBatch, rangeBatch, placeEnd, judgeRecord, judgeReadings, judgeHours, judge, placeWaterDay, judgeDaySurvey, judgeWater}
+use Rattle.rules.specs.Walk.{Stand, Between, Inside, InWater, viewOf, runsOf, taken, Outcome, Refused, ended, faultOf, walk, outcome}
 use Rattle.rules.specs.Account.{Promise}
 use Rattle.rules.proofs.Faults.{at-place-number}
-use Rattle.rules.proofs.Fields.{Row, row-none, row-more, head-row, mask-row, reading-row, survey-row, batch-row}
+use Rattle.rules.proofs.Fields.{Row, row-none, row-more, head-row, mask-row, reading-row, survey-row, batch-row, outfall-row, water-day-row}
 use Rattle.answers.proofs.Answers.{answer-case}
-use Rattle.answers.proofs.Silent.{Quiet, silent-fine, silent-need, silent-first, silent-placed, silent-bad, silent-stopped, silent-fuel}
+use Rattle.answers.proofs.Silent.{Quiet, silent-fine, silent-need, silent-first, silent-placed, silent-bad, silent-stopped, silent-stopped-day, silent-method}
 use Rattle.answers.proofs.Places.{faultBy}
 
 unfoldable three : ℕ → Bool
@@ -29,7 +31,7 @@ three n = eqb n 3
 
 quiet-three : Quiet three
 unfolding three
-quiet-three = record { zero = refl; one = refl; two = refl; five = refl; six = refl; seven = refl }
+quiet-three = record { zero = refl; one = refl; two = refl; five = refl; six = refl; seven = refl; eighteen = refl }
 
 abbrev NotThree : Fault → Type 0
 NotThree f = three (f .number) ≡ false
@@ -45,7 +47,18 @@ module _ (v : View) (runs bytes : List ℕ) where
 
   survey-three : (s : Survey) → NotThree (judgeSurvey v runs s)
   unfolding judgeSurvey
-  survey-three s = two-three _ _ (wrong-three 14 (survey-row (v .head .days) s)) (silent-stopped three quiet-three runs (s .hour))
+  survey-three s = two-three _ _ (wrong-three 14 (survey-row _ s)) (silent-stopped three quiet-three runs (s .hour))
+
+  day-survey-three : (s : Survey) → NotThree (judgeDaySurvey v runs s)
+  unfolding judgeDaySurvey
+  day-survey-three s = two-three _ _ (wrong-three 14 (survey-row _ s)) (silent-stopped-day three quiet-three runs (s .hour))
+
+  water-three : (w : Water) → NotThree (judgeWater v runs w)
+  unfolding judgeWater placeHead placeWaterDay placeEnforcement placePlant
+  water-three (OfOutfallHead o) = two-three _ _ (silent-placed three quiet-three _) (wrong-three 8 (outfall-row o))
+  water-three (OfOutfallDay d) = two-three _ _ (silent-placed three quiet-three _) (wrong-three 14 (water-day-row d))
+  water-three (OfOutfallEnforcement s) = two-three _ _ (silent-placed three quiet-three _) (day-survey-three s)
+  water-three (OfOutfallPlant s) = two-three _ _ (silent-placed three quiet-three _) (day-survey-three s)
 
   record-three : (r : Record) → NotThree (first (judgeRecord v runs r) (judgeReadings bytes r))
   unfolding judgeRecord judgeReadings judgeHours placeHead rangeHead placeDay rangeMasks placeEnforcement placePlant placeBatch rangeBatch placeEnd
@@ -55,12 +68,14 @@ module _ (v : View) (runs bytes : List ℕ) where
   record-three (OfEnforcement s) = two-three _ _ (two-three _ _ (silent-placed three quiet-three _) (survey-three s)) (silent-fine three quiet-three)
   record-three (OfPlant s) = two-three _ _ (two-three _ _ (silent-placed three quiet-three _) (survey-three s)) (silent-fine three quiet-three)
   record-three (OfBatch b) = two-three _ _ (two-three _ _ (silent-placed three quiet-three _) (wrong-three 16 (batch-row (v .fuel) b))) (silent-fine three quiet-three)
-  record-three OfEnd = two-three _ _ (two-three _ _ (silent-placed three quiet-three _) (silent-fuel three quiet-three v)) (silent-fine three quiet-three)
+  record-three OfEnd = two-three _ _ (two-three _ _ (silent-placed three quiet-three _) (silent-method three quiet-three v)) (silent-fine three quiet-three)
+  record-three (OfWater w) = two-three _ _ (water-three w) (silent-fine three quiet-three)
 
 walk-three : (file : List ℕ) (ps : List Placed) (stand : Stand) → NotThree (faultBy (walk file ps stand))
 unfolding walk ended faultBy refuse fine faultOf judge
 walk-three file [] (Between done) = quiet-three .zero
 walk-three file [] (Inside x done) = quiet-three .two
+walk-three file [] (InWater x done) = quiet-three .two
 walk-three file (p ∷ more) stand =
     pick-case (λ (o : Outcome). NotThree (faultBy o)) _ _ _ (λ _. walk-three file more (taken stand (p .bytes) (recordIn (p .bytes))))
     (λ _. ap three (at-place-number (p .place) _) ∙ record-three (viewOf stand) (runsOf stand) (p .bytes) (recordIn (p .bytes)))

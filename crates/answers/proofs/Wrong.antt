@@ -8,7 +8,8 @@ use lib.ListN.{length}
 use lib.Dec.{eqb}
 use borrow.Author.Tests.{le-leb}
 use Rattle.law.specs.Numbers.{hoursOfDay}
-use Rattle.law.specs.Words.{need, pick}
+use Rattle.law.specs.Words.{need, needAll, pick}
+use Rattle.field.specs.Field.{u8}
 use Rattle.law.proofs.Tests.{need-case, pick-case}
 use Rattle.law.proofs.Each.{Each, each-none, each-more, each-append, each-joined}
 use Rattle.rules.specs.declared.Fault.{Fault}
@@ -17,14 +18,14 @@ use Rattle.rules.specs.declared.Pair.{Pair}
 use Rattle.rules.specs.declared.Survey.{Survey}
 use Rattle.rules.specs.declared.Record.{Record}
 use Rattle.rules.specs.declared.View.{View}
-use Rattle.rules.specs.Records.{headOf, pairOf, masksOf, dayOf, surveyOf, batchOf, recordIn, sizeIn}
-use Rattle.rules.specs.Fields.{Field, fits, headFields, maskFields, measuredFields, blankFields, hourFields, readingFields, surveyFields, batchFields}
-use Rattle.rules.specs.Judge.{refuse, fine, first, firstWrong, placeHead, rangeHead, placeDay, rangeMasks, placeEnforcement, placePlant, judgeSurvey, placeBatch, rangeBatch, placeEnd, judgeRecord, judgeReadings, judgeHours}
+use Rattle.rules.specs.Records.{headOf, pairOf, masksOf, dayOf, surveyOf, batchOf, outfallOf, waterDayOf, recordIn, sizeIn}
+use Rattle.rules.specs.Fields.{Field, fits, headFields, maskFields, measuredFields, blankFields, hourFields, readingFields, surveyFields, batchFields, outfallFields, waterDayFields}
+use Rattle.rules.specs.Judge.{refuse, fine, first, firstWrong, placeHead, rangeHead, placeDay, rangeMasks, placeEnforcement, placePlant, judgeSurvey, placeBatch, rangeBatch, placeEnd, judgeRecord, judgeReadings, judgeHours, placeWaterDay, judgeDaySurvey, judgeWater}
 use Rattle.rules.proofs.Records.{record-case, pair-at}
 use Rattle.rules.proofs.Faults.{first-first}
-use Rattle.rules.proofs.Fields.{Row, row-none, row-more, row-ends, row-append, wrong-append, head-row, mask-row, reading-row, survey-row, batch-row}
+use Rattle.rules.proofs.Fields.{Row, row-none, row-more, row-ends, row-append, wrong-append, head-row, mask-row, reading-row, survey-row, batch-row, outfall-row, water-day-row}
 use Rattle.answers.specs.Places.{ofField, fieldsOf, numberAt, fineBefore}
-use Rattle.answers.proofs.Silent.{Silent, silent-fine, silent-first, silent-placed, silent-bad, silent-stopped, silent-fuel, quiet-fields}
+use Rattle.answers.proofs.Silent.{Silent, silent-fine, silent-first, silent-placed, silent-bad, silent-stopped, silent-stopped-day, silent-method, quiet-fields}
 
 -- ---- the first wrong field of a row
 pub record WrongIn (a b : ℕ) (fs : List Field) (f : Fault) : Type 0 where
@@ -127,6 +128,18 @@ module _ (bytes : List ℕ) where
   unfolding batchFields batchOf numberAt pick
   batch-holds fuel = one-holds refl (one-holds refl (one-holds refl each-none))
 
+  outfall-holds : Each (Holds bytes) (outfallFields (outfallOf bytes))
+  unfolding outfallFields outfallOf numberAt pick
+  outfall-holds = one-holds refl (one-holds refl each-none)
+
+  state-holds : numberAt bytes 5 1 ≡ u8 bytes 5
+  unfolding numberAt pick
+  state-holds = refl
+
+  water-day-holds : Each (Holds bytes) (waterDayFields (waterDayOf bytes))
+  unfolding waterDayFields waterDayOf
+  water-day-holds = one-holds state-holds (pick-case (Each (Holds bytes)) _ _ _ (λ _. measured-holds 6) (λ _. blank-holds 6))
+
 -- ---- a record that is refused by a field
 pub record InRecord (v : View) (bytes : List ℕ) (r : Record) (f : Fault) : Type 0 where
   pub wrong : WrongIn 4 (sizeIn bytes) (fieldsOf v bytes r) f
@@ -148,10 +161,15 @@ module _ (v : View) (runs bytes : List ℕ) where
         whole = omega (arith, s, l);
       }
 
-  survey-pointed : (s : Survey) → Pointed 4 14 (surveyFields (v .head .days) s) (judgeSurvey v runs s)
+  survey-pointed : (s : Survey) → Pointed 4 14 (surveyFields (hoursOfDay * v .head .days) s) (judgeSurvey v runs s)
   unfolding judgeSurvey
   survey-pointed s =
-      before-silent 4 14 _ _ _ (wrong-in 14 (survey-row (v .head .days) s)) (silent-stopped ofField quiet-fields runs (s .hour))
+      before-silent 4 14 _ _ _ (wrong-in 14 (survey-row (hoursOfDay * v .head .days) s)) (silent-stopped ofField quiet-fields runs (s .hour))
+
+  day-survey-pointed : (s : Survey) → Pointed 4 14 (surveyFields (v .head .days) s) (judgeDaySurvey v runs s)
+  unfolding judgeDaySurvey
+  day-survey-pointed s =
+      before-silent 4 14 _ _ _ (wrong-in 14 (survey-row (v .head .days) s)) (silent-stopped-day ofField quiet-fields runs (s .hour))
 
   -- of a day the masks come first, then its readings
   day-pointed : (m : Masks) → Pointed 4 205 (maskFields m ++ readingFields (dayOf bytes)) (first (first (placeDay v m) (rangeMasks m)) (judgeHours (dayOf bytes)))
@@ -164,14 +182,26 @@ module _ (v : View) (runs bytes : List ℕ) where
   no-more-fields : Silent ofField quiet-fields fine
   no-more-fields = silent-fine ofField quiet-fields
 
+  -- a record without readings to judge, out of place or by its fields
+  by-fields : (n : ℕ) (fs : List Field) (ts : List Bool) (f : Fault) → Pointed 4 n fs f → Pointed 4 n fs (first (first (needAll (refuse 2 0) ts fine) f) fine)
+  by-fields n fs ts f p = before-silent 4 n fs _ _ (behind-silent 4 n fs _ _ (silent-placed ofField quiet-fields ts) p) no-more-fields
+
   pub in-record : Claim (recordIn bytes)
-  unfolding judgeRecord judgeReadings fieldsOf placeHead rangeHead placeEnforcement placePlant placeBatch rangeBatch placeEnd
+  unfolding judgeRecord judgeReadings fieldsOf placeHead rangeHead placeEnforcement placePlant placeBatch rangeBatch placeEnd judgeWater placeWaterDay
   in-record =
       record-case Claim bytes
       (λ o. absurd (clash _ o (silent-first ofField quiet-fields _ _ (silent-bad ofField quiet-fields) no-more-fields)))
-      (λ z. claim 14 _ z (before-silent 4 14 _ _ _ (behind-silent 4 14 _ _ _ (silent-placed ofField quiet-fields _) (wrong-in 14 (head-row (headOf bytes)))) no-more-fields) (head-holds bytes))
-      (λ z. claim 205 _ z (day-pointed (masksOf bytes)) (day-holds bytes))
-      (λ z. claim 14 _ z (before-silent 4 14 _ _ _ (behind-silent 4 14 _ _ _ (silent-placed ofField quiet-fields _) (survey-pointed (surveyOf bytes))) no-more-fields) (survey-holds bytes _))
-      (λ z. claim 14 _ z (before-silent 4 14 _ _ _ (behind-silent 4 14 _ _ _ (silent-placed ofField quiet-fields _) (survey-pointed (surveyOf bytes))) no-more-fields) (survey-holds bytes _))
-      (λ z. claim 16 _ z (before-silent 4 16 _ _ _ (behind-silent 4 16 _ _ _ (silent-placed ofField quiet-fields _) (wrong-in 16 (batch-row (v .fuel) (batchOf bytes)))) no-more-fields) (batch-holds bytes _))
-      (λ z o. absurd (clash _ o (silent-first ofField quiet-fields _ _ (silent-first ofField quiet-fields _ _ (silent-placed ofField quiet-fields _) (silent-fuel ofField quiet-fields v)) no-more-fields)))
+      (record {
+        head = λ z. claim 14 _ z (by-fields 14 _ _ _ (wrong-in 14 (head-row (headOf bytes)))) (head-holds bytes);
+        day = λ z. claim 205 _ z (day-pointed (masksOf bytes)) (day-holds bytes);
+        enforcement = λ z. claim 14 _ z (by-fields 14 _ _ _ (survey-pointed (surveyOf bytes))) (survey-holds bytes _);
+        plant = λ z. claim 14 _ z (by-fields 14 _ _ _ (survey-pointed (surveyOf bytes))) (survey-holds bytes _);
+        batch = λ z. claim 16 _ z (by-fields 16 _ _ _ (wrong-in 16 (batch-row (v .fuel) (batchOf bytes)))) (batch-holds bytes _);
+      })
+      (λ z o. absurd (clash _ o (silent-first ofField quiet-fields _ _ (silent-first ofField quiet-fields _ _ (silent-placed ofField quiet-fields _) (silent-method ofField quiet-fields v)) no-more-fields)))
+      (record {
+        head = λ z. claim 8 _ z (by-fields 8 _ _ _ (wrong-in 8 (outfall-row (outfallOf bytes)))) (outfall-holds bytes);
+        day = λ z. claim 14 _ z (by-fields 14 _ _ _ (wrong-in 14 (water-day-row (waterDayOf bytes)))) (water-day-holds bytes);
+        enforcement = λ z. claim 14 _ z (by-fields 14 _ _ _ (day-survey-pointed (surveyOf bytes))) (survey-holds bytes _);
+        plant = λ z. claim 14 _ z (by-fields 14 _ _ _ (day-survey-pointed (surveyOf bytes))) (survey-holds bytes _);
+      })

@@ -2,11 +2,13 @@
 use mathlib.Core.List.{List, [], _∷_}
 use Rattle.rules.specs.declared.Head.{Head}
 use Rattle.rules.specs.declared.Record.{Record}
-use Rattle.rules.specs.declared.Record.the-variants.{Bad, OfHead, OfDay, OfEnforcement, OfPlant, OfBatch, OfEnd}
+use Rattle.rules.specs.declared.Record.the-variants.{Bad, OfHead, OfDay, OfEnforcement, OfPlant, OfBatch, OfEnd, OfWater}
+use Rattle.rules.specs.declared.Water.the-variants.{OfOutfallHead, OfOutfallDay, OfOutfallEnforcement, OfOutfallPlant}
+use Rattle.rules.specs.Outfalls.{asHead}
 use Rattle.rules.specs.Records.{Placed, recordIn, recordsOf}
 use Prim.Native.Nat.{ℕ}
 
--- a head is put before those that follow, any other record passed over
+-- a head, of a stack or of an outfall, is put before those that follow, any other record passed over
 unfoldable pub headsWith : Record → List Head → List Head
 headsWith Bad more = more
 headsWith (OfHead h) more = h ∷ more
@@ -15,6 +17,10 @@ headsWith (OfEnforcement s) more = more
 headsWith (OfPlant s) more = more
 headsWith (OfBatch b) more = more
 headsWith OfEnd more = more
+headsWith (OfWater (OfOutfallHead o)) more = asHead o ∷ more
+headsWith (OfWater (OfOutfallDay d)) more = more
+headsWith (OfWater (OfOutfallEnforcement s)) more = more
+headsWith (OfWater (OfOutfallPlant s)) more = more
 
 unfoldable pub headsIn : List Placed → List Head
 headsIn [] = []

@@ -1,17 +1,19 @@
 -- Where a refusal points: the record that is refused, and the first of its fields that is out of range.
-use Prim.Native.Nat.{ℕ, _+_, _≤_}
+use Prim.Native.Nat.{ℕ, _+_, _*_, _≤_}
 use mathlib.Core.Bool.{Bool, true, false, _&&_, _||_}
 use mathlib.Core.List.{List, [], _∷_, _++_}
 use mathlib.Core.Path.{_≡_}
 use lib.ListN.{length, drop}
 use lib.Dec.{leb, eqb}
+use Rattle.law.specs.Numbers.{hoursOfDay}
 use Rattle.law.specs.Words.{pick}
 use Rattle.field.specs.Field.{u8, u16, u32, u64}
 use Rattle.rules.specs.declared.Record.{Record}
-use Rattle.rules.specs.declared.Record.the-variants.{Bad, OfHead, OfDay, OfEnforcement, OfPlant, OfBatch, OfEnd}
+use Rattle.rules.specs.declared.Record.the-variants.{Bad, OfHead, OfDay, OfEnforcement, OfPlant, OfBatch, OfEnd, OfWater}
+use Rattle.rules.specs.declared.Water.the-variants.{OfOutfallHead, OfOutfallDay, OfOutfallEnforcement, OfOutfallPlant}
 use Rattle.rules.specs.declared.View.{View}
 use Rattle.rules.specs.Records.{dayOf, recordIn, sizeIn, Placed, recordsOf}
-use Rattle.rules.specs.Fields.{Field, fits, between, headFields, maskFields, readingFields, surveyFields, batchFields}
+use Rattle.rules.specs.Fields.{Field, fits, between, headFields, maskFields, readingFields, surveyFields, batchFields, outfallFields, waterDayFields}
 use Rattle.rules.specs.Walk.{Stand, Between, viewOf, taken}
 
 -- the numbers whose place is a field's
@@ -22,10 +24,14 @@ ofField number = eqb number 4 || between 14 17 number
 unfoldable pub fieldsOf : View → List ℕ → Record → List Field
 fieldsOf v bytes (OfHead h) = headFields h
 fieldsOf v bytes (OfDay m) = maskFields m ++ readingFields (dayOf bytes)
-fieldsOf v bytes (OfEnforcement s) = surveyFields (v .head .days) s
-fieldsOf v bytes (OfPlant s) = surveyFields (v .head .days) s
+fieldsOf v bytes (OfEnforcement s) = surveyFields (hoursOfDay * v .head .days) s
+fieldsOf v bytes (OfPlant s) = surveyFields (hoursOfDay * v .head .days) s
 fieldsOf v bytes (OfBatch b) = batchFields (v .fuel) b
 fieldsOf v bytes OfEnd = []
+fieldsOf v bytes (OfWater (OfOutfallHead o)) = outfallFields o
+fieldsOf v bytes (OfWater (OfOutfallDay d)) = waterDayFields d
+fieldsOf v bytes (OfWater (OfOutfallEnforcement s)) = surveyFields (v .head .days) s
+fieldsOf v bytes (OfWater (OfOutfallPlant s)) = surveyFields (v .head .days) s
 fieldsOf v bytes Bad = []
 
 -- the number that lies at a place, so many bytes wide

@@ -1,6 +1,6 @@
 -- Laws of judging: whether a record is refused, and where; and what a record that is not refused has. Assumes nothing.
 use Prim.Native.Nat.{ℕ, suc, _+_, _*_, _<_, _≤_}
-use mathlib.Core.Bool.{true, false}
+use mathlib.Core.Bool.{Bool, true, false, _||_}
 use mathlib.Core.List.{List}
 use mathlib.Core.Path.{_≡_, refl, sym, ap, _∙_}
 use native.Mathlib.Omega.{arith}
@@ -9,24 +9,29 @@ use lib.Dec.{leb, ltb}
 use borrow.Author.Tests.{leb-true, ltb-true, eqb-true, not-true}
 use Rattle.law.specs.Numbers.{hoursOfDay, mostDays, mostLines, mostSurveys, mostBatches, mostSulphur, mostAsh, mostFuel}
 use Rattle.law.specs.Words.{need}
-use Rattle.law.proofs.Tests.{pick-not-le, both-true}
+use Rattle.law.proofs.Tests.{pick-true, pick-false, pick-not-le, both-true}
 use Rattle.rules.specs.declared.Head.{Head}
 use Rattle.rules.specs.declared.Masks.{Masks}
 use Rattle.rules.specs.declared.Survey.{Survey}
 use Rattle.rules.specs.declared.Batch.{Batch}
 use Rattle.rules.specs.declared.Record.{Record}
-use Rattle.rules.specs.declared.Record.the-variants.{Bad, OfHead, OfDay, OfEnforcement, OfPlant, OfBatch, OfEnd}
+use Rattle.rules.specs.declared.Record.the-variants.{Bad, OfHead, OfDay, OfEnforcement, OfPlant, OfBatch, OfEnd, OfWater}
+use Rattle.rules.specs.declared.Outfall.{Outfall}
+use Rattle.rules.specs.declared.WaterDay.{WaterDay}
+use Rattle.rules.specs.declared.Water.{Water}
+use Rattle.rules.specs.declared.Water.the-variants.{OfOutfallHead, OfOutfallDay, OfOutfallEnforcement, OfOutfallPlant}
 use Rattle.rules.specs.declared.Fault.{Fault}
 use Rattle.rules.specs.declared.View.{View}
 use Rattle.rules.specs.declared.Coefficients.{Coefficients}
 use Rattle.rules.specs.declared.Coefficients.the-variants.{NoEntry}
-use Rattle.rules.specs.Records.{headOf, masksOf, dayOf, surveyOf, batchOf, recordIn}
+use Rattle.rules.specs.Records.{headOf, masksOf, dayOf, surveyOf, batchOf, outfallOf, waterDayOf, recordIn}
+use Rattle.rules.specs.Outfalls.{asHead}
 use Rattle.rules.specs.Tables.{coefficientsOf}
 use Rattle.rules.specs.OnPaper.{recordOnPaper, coefficientsOnPaper}
-use Rattle.rules.specs.Fields.{headFields, surveyFields, batchFields}
-use Rattle.rules.specs.Judge.{refuse, fine, first, firstWrong, placeHead, rangeHead, placeDay, rangeMasks, blamed, judgePair, judgeHours, surveysLeft, surveyTests, placeEnforcement, placePlant, judgeStopped, judgeSurvey, placeBatch, rangeBatch, judgeEntry, placeEnd, lineMethod, judgeFuel, judgeRecord, judgeReadings, judge}
+use Rattle.rules.specs.Fields.{headFields, surveyFields, batchFields, outfallFields, waterDayFields}
+use Rattle.rules.specs.Judge.{refuse, fine, first, firstWrong, placeHead, rangeHead, placeDay, rangeMasks, blamed, judgePair, judgeHours, surveysLeft, surveyTests, placeEnforcement, placePlant, judgeStopped, judgeSurvey, placeBatch, rangeBatch, judgeEntry, placeEnd, lineMethod, judgeFuel, dailyMethod, judgeMethod, placeWaterDay, judgeStoppedDay, judgeDaySurvey, judgeWater, judgeRecord, judgeReadings, judge}
 use Rattle.rules.proofs.Faults.{Stands, stands, stands-fine, stands-first, Within, withins, within-fine, within-first, first-goes, first-stops, passed, each-passed, both-passed}
-use Rattle.rules.proofs.Fields.{stands-wrong, within-wrong, each-fits, head-row, mask-row, reading-row, hours-stand, survey-row, batch-row}
+use Rattle.rules.proofs.Fields.{stands-wrong, within-wrong, each-fits, head-row, mask-row, reading-row, hours-stand, survey-row, batch-row, outfall-row, water-day-row}
 use Rattle.rules.proofs.Records.{record-case}
 use Rattle.day.proofs.Laws.{PairAccepted, pair-accepted}
 
@@ -44,12 +49,20 @@ survey-stands : (v : View) (runs : List ℕ) (s : Survey) → Stands (judgeSurve
 unfolding judgeSurvey judgeStopped
 survey-stands v runs s = search stands
 
+-- a record of an outfall
+water-stands : (v : View) (states : List ℕ) (w : Water) → Stands (judgeWater v states w)
+unfolding judgeWater judgeDaySurvey judgeStoppedDay
+water-stands v states (OfOutfallHead o) = stands-first _ _ (stands-wrong 8 (outfall-row o))
+water-stands v states (OfOutfallDay d) = stands-first _ _ (stands-wrong 14 (water-day-row d))
+water-stands v states (OfOutfallEnforcement s) = stands-first _ _ (search stands)
+water-stands v states (OfOutfallPlant s) = stands-first _ _ (search stands)
+
 batch-stands : (v : View) (b : Batch) → Stands (rangeBatch v b)
 unfolding rangeBatch
 batch-stands v b = stands-wrong 16 (batch-row (v .fuel) b)
 
 pub record-stands : (v : View) (runs : List ℕ) (r : Record) → Stands (judgeRecord v runs r)
-unfolding judgeRecord judgeEntry judgeFuel
+unfolding judgeRecord judgeEntry judgeFuel judgeMethod
 record-stands v runs Bad = search stands
 record-stands v runs (OfHead h) = stands-first _ _ (head-stands h)
 record-stands v runs (OfDay m) = stands-first _ _ (masks-stand m)
@@ -57,6 +70,7 @@ record-stands v runs (OfEnforcement s) = stands-first _ _ (survey-stands v runs 
 record-stands v runs (OfPlant s) = stands-first _ _ (survey-stands v runs s)
 record-stands v runs (OfBatch b) = stands-first _ _ (batch-stands v b)
 record-stands v runs OfEnd = search stands depth 20
+record-stands v runs (OfWater w) = water-stands v runs w
 
 pub readings-stand : (bytes : List ℕ) (r : Record) → Stands (judgeReadings bytes r)
 unfolding judgeReadings
@@ -67,6 +81,7 @@ readings-stand bytes (OfEnforcement s) = stands-fine
 readings-stand bytes (OfPlant s) = stands-fine
 readings-stand bytes (OfBatch b) = stands-fine
 readings-stand bytes OfEnd = stands-fine
+readings-stand bytes (OfWater w) = stands-fine
 
 -- ---- where a record is refused: within its bytes
 within-more : (n m : ℕ) (f : Fault) → n ≤ m → Within n f → Within m f
@@ -74,31 +89,45 @@ within-more n m f l w = omega (arith, l, w)
 
 survey-within : (v : View) (runs : List ℕ) (s : Survey) → Within 14 (judgeSurvey v runs s)
 unfolding judgeSurvey judgeStopped
-survey-within v runs s = within-first 14 _ _ (within-wrong 14 (survey-row (v .head .days) s)) (search withins)
+survey-within v runs s = within-first 14 _ _ (within-wrong 14 (survey-row (hoursOfDay * v .head .days) s)) (search withins)
+
+day-survey-within : (v : View) (states : List ℕ) (s : Survey) → Within 14 (judgeDaySurvey v states s)
+unfolding judgeDaySurvey judgeStoppedDay
+day-survey-within v states s = within-first 14 _ _ (within-wrong 14 (survey-row (v .head .days) s)) (search withins)
 
 pub record-within : (v : View) (runs bytes : List ℕ) → Within (length bytes) (judgeRecord v runs (recordIn bytes))
-unfolding judgeRecord placeHead rangeHead placeDay rangeMasks placeEnforcement placePlant placeBatch rangeBatch judgeEntry placeEnd judgeFuel
+unfolding judgeRecord placeHead rangeHead placeDay rangeMasks placeEnforcement placePlant placeBatch rangeBatch judgeEntry placeEnd judgeFuel judgeMethod judgeWater placeWaterDay
 record-within v runs bytes =
     record-case (λ (r : Record). Within (length bytes) (judgeRecord v runs r)) bytes
     (search withins)
-    (λ l. within-first _ _ _ (search withins) (within-more _ _ (rangeHead (headOf bytes)) (l .1) (within-wrong 14 (head-row (headOf bytes)))))
-    (λ l. within-first _ _ _ (search withins) (within-more _ _ (rangeMasks (masksOf bytes)) (omega (arith, l .1)) (within-wrong 13 (mask-row (masksOf bytes)))))
-    (λ l. within-first _ _ _ (search withins) (within-more _ _ (judgeSurvey v runs (surveyOf bytes)) (l .1) (survey-within v runs (surveyOf bytes))))
-    (λ l. within-first _ _ _ (search withins) (within-more _ _ (judgeSurvey v runs (surveyOf bytes)) (l .1) (survey-within v runs (surveyOf bytes))))
-    (λ l. within-first _ _ _ (search withins) (within-more _ _ (rangeBatch v (batchOf bytes)) (l .1) (within-wrong 16 (batch-row (v .fuel) (batchOf bytes)))))
+    (record {
+      head = λ l. within-first _ _ _ (search withins) (within-more _ _ (rangeHead (headOf bytes)) (l .1) (within-wrong 14 (head-row (headOf bytes))));
+      day = λ l. within-first _ _ _ (search withins) (within-more _ _ (rangeMasks (masksOf bytes)) (omega (arith, l .1)) (within-wrong 13 (mask-row (masksOf bytes))));
+      enforcement = λ l. within-first _ _ _ (search withins) (within-more _ _ (judgeSurvey v runs (surveyOf bytes)) (l .1) (survey-within v runs (surveyOf bytes)));
+      plant = λ l. within-first _ _ _ (search withins) (within-more _ _ (judgeSurvey v runs (surveyOf bytes)) (l .1) (survey-within v runs (surveyOf bytes)));
+      batch = λ l. within-first _ _ _ (search withins) (within-more _ _ (rangeBatch v (batchOf bytes)) (l .1) (within-wrong 16 (batch-row (v .fuel) (batchOf bytes))));
+    })
     (λ _. search withins depth 20)
+    (record {
+      head = λ l. within-first _ _ _ (search withins) (within-more _ _ (firstWrong (outfallFields (outfallOf bytes))) (l .1) (within-wrong 8 (outfall-row (outfallOf bytes))));
+      day = λ l. within-first _ _ _ (search withins) (within-more _ _ (firstWrong (waterDayFields (waterDayOf bytes))) (l .1) (within-wrong 14 (water-day-row (waterDayOf bytes))));
+      enforcement = λ l. within-first _ _ _ (search withins) (within-more _ _ (judgeDaySurvey v runs (surveyOf bytes)) (l .1) (day-survey-within v runs (surveyOf bytes)));
+      plant = λ l. within-first _ _ _ (search withins) (within-more _ _ (judgeDaySurvey v runs (surveyOf bytes)) (l .1) (day-survey-within v runs (surveyOf bytes)));
+    })
 
 pub readings-within : (bytes : List ℕ) → Within (length bytes) (judgeReadings bytes (recordIn bytes))
 unfolding judgeReadings judgeHours
 readings-within bytes =
     record-case (λ (r : Record). Within (length bytes) (judgeReadings bytes r)) bytes
     (within-fine _)
-    (λ _. within-fine _)
-    (λ l. within-more _ _ (judgeHours (dayOf bytes)) (l .1) (within-wrong 205 (reading-row (dayOf bytes))))
-    (λ _. within-fine _)
-    (λ _. within-fine _)
-    (λ _. within-fine _)
-    (λ _. within-fine _)
+    (record {
+      head = λ _. within-fine _;
+      day = λ l. within-more _ _ (judgeHours (dayOf bytes)) (l .1) (within-wrong 205 (reading-row (dayOf bytes)));
+      enforcement = λ _. within-fine _;
+      plant = λ _. within-fine _;
+      batch = λ _. within-fine _;
+    })
+    (λ _. within-fine _) (record { head = λ _. within-fine _; day = λ _. within-fine _; enforcement = λ _. within-fine _; plant = λ _. within-fine _ })
 
 -- ---- the record in bytes: what refuses it as it is read refuses it, and where nothing does its readings speak
 module _ (v : View) (runs bytes : List ℕ) (r : Record) (read : r ≡ recordIn bytes) (f : Fault) (judged : f ≡ judgeRecord v runs r) where
@@ -114,7 +143,7 @@ module _ (v : View) (runs bytes : List ℕ) (r : Record) (read : r ≡ recordIn 
 
 -- ---- what the walk asks of a record that is not refused
 pub record HeadOk (v : View) (h : Head) : Type 0 where
-  pub outside : v .inside ≡ false
+  pub outside : (v .inside || v .water) ≡ false
   pub room : v .lines < mostLines
   pub pollutant-least : 1 ≤ h .pollutant
   pub pollutant-most : h .pollutant ≤ 3
@@ -125,12 +154,26 @@ pub record DayOk (v : View) (m : Masks) : Type 0 where
   pub room : v .days < v .head .days
   pub turn : m .day ≡ v .days
 
-pub record SurveyOk (v : View) (s : Survey) : Type 0 where
-  pub inside : v .inside ≡ true
+-- a survey inside a line of its world, within a period of so many hours or days
+pub record SurveyOk (here : Bool) (period : ℕ) (v : View) (s : Survey) : Type 0 where
+  pub inside : here ≡ true
   pub days-done : v .days ≡ v .head .days
   pub room : v .enforcement .count + v .plant .count < mostSurveys
-  pub in-period : s .hour < hoursOfDay * v .head .days
+  pub in-period : s .hour < period
   pub pair : PairAccepted (s .pair)
+
+pub record OutfallOk (v : View) (o : Outfall) : Type 0 where
+  pub outside : (v .inside || v .water) ≡ false
+  pub room : v .lines < mostLines
+  pub pollutant-least : 4 ≤ o .pollutant
+  pub pollutant-most : o .pollutant ≤ 5
+  pub days-most : o .days ≤ mostDays
+
+pub record WaterDayOk (v : View) (d : WaterDay) : Type 0 where
+  pub inside : v .water ≡ true
+  pub room : v .days < v .head .days
+  pub turn : d .day ≡ v .days
+  pub fields : firstWrong (waterDayFields d) ≡ fine
 
 pub record BatchOk (v : View) (b : Batch) : Type 0 where
   pub inside : v .inside ≡ true
@@ -140,9 +183,10 @@ pub record BatchOk (v : View) (b : Batch) : Type 0 where
   pub fuel-most : v .fuel + b .kg ≤ mostFuel
 
 pub record EndOk (v : View) : Type 0 where
-  pub inside : v .inside ≡ true
+  pub inside : (v .inside || v .water) ≡ true
   pub days-done : v .days ≡ v .head .days
-  pub by-fuel : 2 < lineMethod v → (0 < v .batches) × (coefficientsOf (v .head) ≡ NoEntry → ⊥)
+  pub left : v .water ≡ true → 0 < dailyMethod v
+  pub by-fuel : v .water ≡ false → 2 < lineMethod v → (0 < v .batches) × (coefficientsOf (v .head) ≡ NoEntry → ⊥)
 
 module _ (v : View) where
   pub head-ok : (runs : List ℕ) (h : Head) → judgeRecord v runs (OfHead h) ≡ fine → HeadOk v h
@@ -153,7 +197,7 @@ module _ (v : View) where
       let r = each-fits 14 (head-row h) (both .1) in
       let pollutant = both-true (leb 1 (h .pollutant)) (leb (h .pollutant) 3) (r 0) in
       let days = both-true (leb 1 (h .days)) (leb (h .days) mostDays) (r 6) in
-      record { outside = not-true (v .inside) (p 0); room = ltb-true _ _ (p 2); pollutant-least = leb-true _ _ (pollutant .0); pollutant-most = leb-true _ _ (pollutant .1); days-most = leb-true _ _ (days .1) }
+      record { outside = not-true (v .inside || v .water) (p 0); room = ltb-true _ _ (p 2); pollutant-least = leb-true _ _ (pollutant .0); pollutant-most = leb-true _ _ (pollutant .1); days-most = leb-true _ _ (days .1) }
 
   pub day-ok : (runs : List ℕ) (m : Masks) → judgeRecord v runs (OfDay m) ≡ fine → DayOk v m
   unfolding judgeRecord placeDay
@@ -162,26 +206,63 @@ module _ (v : View) where
       let p = each-passed 2 0 _ refl (both .0) in
       record { inside = p 0; room = ltb-true _ _ (p 1); turn = eqb-true _ _ (p 2) }
 
-  -- a survey of either kind, by where it stands
-  survey-ok : (runs : List ℕ) (floor : ℕ) (s : Survey) → ((i : ℕ) → getD (surveyTests v floor (s .hour)) i true ≡ true) → judgeSurvey v runs s ≡ fine → SurveyOk v s
-  unfolding judgeSurvey surveyTests surveysLeft surveyFields firstWrong judgePair
-  survey-ok runs floor s p e =
-      let both = both-passed (firstWrong (surveyFields (v .head .days) s)) (judgeStopped runs (s .hour)) (stands-wrong 14 (survey-row (v .head .days) s)) e in
-      let a = passed 17 4 (ltb (s .hour) (hoursOfDay * v .head .days)) _ refl (both .0) in
+  -- a survey of either kind, of either world, by where it stands
+  survey-ok : (inside : Bool) (period floor : ℕ) (s : Survey) (f : Fault) → ((i : ℕ) → getD (surveyTests inside v floor (s .hour)) i true ≡ true)
+      → first (firstWrong (surveyFields period s)) f ≡ fine → SurveyOk inside period v s
+  unfolding surveyTests surveysLeft surveyFields firstWrong judgePair
+  survey-ok inside period floor s f p e =
+      let both = both-passed (firstWrong (surveyFields period s)) f (stands-wrong 14 (survey-row period s)) e in
+      let a = passed 17 4 (ltb (s .hour) period) _ refl (both .0) in
       record { inside = p 0; days-done = eqb-true _ _ (p 1); room = ltb-true _ _ (p 4); in-period = ltb-true _ _ (a .0); pair = pair-accepted 6 (s .pair) (a .1) }
 
-  pub enforcement-ok : (runs : List ℕ) (s : Survey) → judgeRecord v runs (OfEnforcement s) ≡ fine → (v .plant .count ≡ 0) × SurveyOk v s
-  unfolding judgeRecord placeEnforcement
-  enforcement-ok runs s e =
-      let both = both-passed (placeEnforcement v s) (judgeSurvey v runs s) (search stands) e in
+  -- by the fault that its fields and its hour or day give
+  placed-enforcement : (inside : Bool) (period : ℕ) (s : Survey) (f : Fault) → first (placeEnforcement inside v s) (first (firstWrong (surveyFields period s)) f) ≡ fine
+      → (v .plant .count ≡ 0) × SurveyOk inside period v s
+  unfolding placeEnforcement
+  placed-enforcement inside period s f e =
+      let both = both-passed (placeEnforcement inside v s) (first (firstWrong (surveyFields period s)) f) (search stands) e in
       let p = each-passed 2 0 _ refl (both .0) in
-      (eqb-true _ _ (p 0), survey-ok runs (v .enforcement .floor) s (λ i. p (suc i)) (both .1))
+      (eqb-true _ _ (p 0), survey-ok inside period (v .enforcement .floor) s f (λ i. p (suc i)) (both .1))
 
-  pub plant-ok : (runs : List ℕ) (s : Survey) → judgeRecord v runs (OfPlant s) ≡ fine → SurveyOk v s
-  unfolding judgeRecord placePlant
-  plant-ok runs s e =
-      let both = both-passed (placePlant v s) (judgeSurvey v runs s) (search stands) e in
-      survey-ok runs (v .plant .floor) s (each-passed 2 0 _ refl (both .0)) (both .1)
+  placed-plant : (inside : Bool) (period : ℕ) (s : Survey) (f : Fault) → first (placePlant inside v s) (first (firstWrong (surveyFields period s)) f) ≡ fine → SurveyOk inside period v s
+  unfolding placePlant
+  placed-plant inside period s f e =
+      let both = both-passed (placePlant inside v s) (first (firstWrong (surveyFields period s)) f) (search stands) e in
+      survey-ok inside period (v .plant .floor) s f (each-passed 2 0 _ refl (both .0)) (both .1)
+
+  pub enforcement-ok : (runs : List ℕ) (s : Survey) → judgeRecord v runs (OfEnforcement s) ≡ fine → (v .plant .count ≡ 0) × SurveyOk (v .inside) (hoursOfDay * v .head .days) v s
+  unfolding judgeRecord judgeSurvey
+  enforcement-ok runs s e = placed-enforcement (v .inside) (hoursOfDay * v .head .days) s (judgeStopped runs (s .hour)) e
+
+  pub plant-ok : (runs : List ℕ) (s : Survey) → judgeRecord v runs (OfPlant s) ≡ fine → SurveyOk (v .inside) (hoursOfDay * v .head .days) v s
+  unfolding judgeRecord judgeSurvey
+  plant-ok runs s e = placed-plant (v .inside) (hoursOfDay * v .head .days) s (judgeStopped runs (s .hour)) e
+
+  -- ---- an outfall
+  pub outfall-ok : (states : List ℕ) (o : Outfall) → judgeRecord v states (OfWater (OfOutfallHead o)) ≡ fine → OutfallOk v o
+  unfolding judgeRecord judgeWater placeHead outfallFields
+  outfall-ok states o e =
+      let both = both-passed (placeHead v (asHead o)) (firstWrong (outfallFields o)) (search stands) e in
+      let p = each-passed 2 0 _ refl (both .0) in
+      let r = each-fits 8 (outfall-row o) (both .1) in
+      let pollutant = both-true (leb 4 (o .pollutant)) (leb (o .pollutant) 5) (r 0) in
+      let days = both-true (leb 1 (o .days)) (leb (o .days) mostDays) (r 1) in
+      record { outside = not-true (v .inside || v .water) (p 0); room = ltb-true _ _ (p 2); pollutant-least = leb-true _ _ (pollutant .0); pollutant-most = leb-true _ _ (pollutant .1); days-most = leb-true _ _ (days .1) }
+
+  pub water-day-ok : (states : List ℕ) (d : WaterDay) → judgeRecord v states (OfWater (OfOutfallDay d)) ≡ fine → WaterDayOk v d
+  unfolding judgeRecord judgeWater placeWaterDay
+  water-day-ok states d e =
+      let both = both-passed (placeWaterDay v d) (firstWrong (waterDayFields d)) (search stands) e in
+      let p = each-passed 2 0 _ refl (both .0) in
+      record { inside = p 0; room = ltb-true _ _ (p 1); turn = eqb-true _ _ (p 2); fields = both .1 }
+
+  pub day-enforcement-ok : (states : List ℕ) (s : Survey) → judgeRecord v states (OfWater (OfOutfallEnforcement s)) ≡ fine → (v .plant .count ≡ 0) × SurveyOk (v .water) (v .head .days) v s
+  unfolding judgeRecord judgeWater judgeDaySurvey
+  day-enforcement-ok states s e = placed-enforcement (v .water) (v .head .days) s (judgeStoppedDay states (s .hour)) e
+
+  pub day-plant-ok : (states : List ℕ) (s : Survey) → judgeRecord v states (OfWater (OfOutfallPlant s)) ≡ fine → SurveyOk (v .water) (v .head .days) v s
+  unfolding judgeRecord judgeWater judgeDaySurvey
+  day-plant-ok states s e = placed-plant (v .water) (v .head .days) s (judgeStoppedDay states (s .hour)) e
 
   pub batch-ok : (runs : List ℕ) (b : Batch) → judgeRecord v runs (OfBatch b) ≡ fine → BatchOk v b
   unfolding judgeRecord placeBatch rangeBatch batchFields
@@ -202,11 +283,16 @@ module _ (v : View) where
       (ltb-true _ _ (a .0), entry-ok (coefficientsOf (v .head)) (a .1))
 
   pub end-ok : (runs : List ℕ) → judgeRecord v runs OfEnd ≡ fine → EndOk v
-  unfolding judgeRecord placeEnd
+  unfolding judgeRecord placeEnd judgeMethod
   end-ok runs e =
-      let both = both-passed (placeEnd v) (judgeFuel v) (search stands) e in
+      let both = both-passed (placeEnd v) (judgeMethod v) (search stands) e in
       let p = each-passed 2 0 _ refl (both .0) in
-      record { inside = p 0; days-done = eqb-true _ _ (p 1); by-fuel = fuel-ok (both .1) }
+      record {
+        inside = p 0;
+        days-done = eqb-true _ _ (p 1);
+        left = λ w. ltb-true _ _ (passed 18 0 (ltb 0 (dailyMethod v)) _ refl (pick-true _ _ _ _ w refl ∙ both .1) .0);
+        by-fuel = λ w. fuel-ok (pick-false _ _ _ _ w refl ∙ both .1);
+      }
 
   -- a bad record is always refused
   pub bad-refused : (runs : List ℕ) → judgeRecord v runs Bad ≡ fine → ⊥

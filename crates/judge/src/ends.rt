@@ -6,7 +6,7 @@ use rules::FINE;
 use rules::Fault;
 use rules::View;
 ghost use mathlib.Core.Path.{_≡_};
-ghost use Rattle.rules.specs.Judge.{first, judgeEntry, placeEnd, judgeFuel};
+ghost use Rattle.rules.specs.Judge.{first, judgeEntry, placeEnd, judgeFuel, judgeMethod};
 
 // "No table entry."
 fn judge_entry(entry: Coefficients) -> Fault
@@ -37,10 +37,20 @@ fn judge_fuel(v: View) -> Fault
     )
 }
 
-// Outside a line, before the last day; then the line's fuel.
-pub fn judge_end(v: View) -> Fault
-    ensures { λ f. ⌜ f ≡ first (placeEnd v) (judgeFuel v) ⌝ }
+// "18, no method left", of water; a line of a stack has 6 and 7.
+fn judge_method(v: View) -> Fault
+    ensures { λ f. ⌜ f ≡ judgeMethod v ⌝ }
 {
-    let placed = v.inside & (v.days == v.head.days as u32);
-    first_of(refuse_unless(2, placed), judge_fuel(v))
+    if v.water {
+        return refuse_unless(18, crate::daily_method(v) > 0);
+    }
+    judge_fuel(v)
+}
+
+// Outside a line, before the last day; then the line's method.
+pub fn judge_end(v: View) -> Fault
+    ensures { λ f. ⌜ f ≡ first (placeEnd v) (judgeMethod v) ⌝ }
+{
+    let placed = (v.inside | v.water) & (v.days == v.head.days as u32);
+    first_of(refuse_unless(2, placed), judge_method(v))
 }

@@ -69,7 +69,7 @@ perGramOfWater = 100
 
 -- no line states more grams than this, so that the totals of 48 lines fit
 abbrev pub mostGrams : ℕ
-mostGrams = 20_000_000_000_000
+mostGrams = 600_000_000_000_000
 
 -- "gap of 24 or fewer"; "the last 720 valid hours"
 abbrev pub shortGap : ℕ

@@ -9,6 +9,7 @@ use Rattle.rules.specs.declared.View.{View}
 use Rattle.line.specs.declared.surveyed.Weighed.{Weighed}
 use Rattle.line.specs.Line.{rowIn}
 use Rattle.line.specs.Put.{Tables, SurveyPut, PlantPut}
+use Rattle.line.specs.Days.{firstLacking, DayPut, DayPlantPut}
 
 pub larger : (a b m n : ℕ) → m ≡ max a b → n ≡ max a b → m ≡ n
 larger a b m n p q = cc
@@ -29,3 +30,14 @@ module _ (t : Survey) (runs : List ℕ) (o o₁ o₂ : Tables) (a b : Weighed) w
 
   pub put-plant : (beaten : Bool) → PlantPut t beaten runs o o₁ a → PlantPut t beaten runs o o₂ b → (a ≡ b) × (o₁ ≡ o₂)
   put-plant beaten p q = (p .weighs ∙ sym (q .weighs), p .tables ∙ sym (q .tables))
+
+-- on a day of an outfall
+pub first-missing-day : (states : List ℕ) (days a b : ℕ) → a ≡ firstLacking states days → b ≡ firstLacking states days → a ≡ b
+first-missing-day states days a b p q = cc
+
+module _ (t : Survey) (states conc flow s₁ c₁ f₁ s₂ c₂ f₂ : List ℕ) (a b : Weighed) where
+  pub put-on-day : DayPut t states conc flow s₁ c₁ f₁ a → DayPut t states conc flow s₂ c₂ f₂ b → (a ≡ b) × (s₁ ≡ s₂) × (c₁ ≡ c₂) × (f₁ ≡ f₂)
+  put-on-day p q = (p .weighs ∙ sym (q .weighs), p .statesNow ∙ sym (q .statesNow), p .concNow ∙ sym (q .concNow), p .flowNow ∙ sym (q .flowNow))
+
+  pub put-plant-on-day : (beaten : Bool) → DayPlantPut t beaten states conc flow s₁ c₁ f₁ a → DayPlantPut t beaten states conc flow s₂ c₂ f₂ b → (a ≡ b) × (s₁ ≡ s₂) × (c₁ ≡ c₂) × (f₁ ≡ f₂)
+  put-plant-on-day beaten p q = (p .weighs ∙ sym (q .weighs), p .statesNow ∙ sym (q .statesNow), p .concNow ∙ sym (q .concNow), p .flowNow ∙ sym (q .flowNow))

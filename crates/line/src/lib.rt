@@ -1,7 +1,11 @@
-// The figures of a line: the larger sulphur, its hours, c x l, its row; a survey put in and weighed.
+// The figures of a line: the larger sulphur, its hours, c x l, its row; a survey put in and weighed, by hours and by days.
+mod days;
 mod marked;
 mod surveyed;
 
+pub use days::first_missing_day;
+pub use days::put_on_day;
+pub use days::put_plant_on_day;
 use rules::View;
 pub use surveyed::Weighed;
 pub use surveyed::put_plant;

@@ -39,7 +39,7 @@ pub fn put_survey(
 }
 
 // Whether an hour has an enforcement survey; past the quarter none has.
-fn is_flagged(flags: &[u32; 2208], hour: u16) -> bool
+pub fn is_flagged(flags: &[u32; 2208], hour: u16) -> bool
     ensures { λ r. ⌜ r ≡ beats (now (flags .entry)) hour ⌝ }
 {
     let h = hour as usize;
@@ -50,7 +50,7 @@ fn is_flagged(flags: &[u32; 2208], hour: u16) -> bool
 }
 
 // What a beaten survey adds.
-fn none_added() -> Weighed
+pub fn none_added() -> Weighed
     ensures { λ r. ⌜ r ≡ nothing ⌝ }
 {
     Weighed {

@@ -10,7 +10,7 @@ use lib.ListN.{length, drop, getD, set, length-map, length-set, List·getD-eq-de
 use lib.Seq.{take-at, drop-at, drop-drop, getD-set-same, getD-set-other}
 use lib.Dec.{eqb}
 use borrow.Author.Tests.{eqb-true, eqb-false, eq-eqb, ne-eqb}
-use Rattle.law.specs.Numbers.{hoursOfDay, mostDays, mostHours, rowCells, totalCells, perGram, mostGrams}
+use Rattle.law.specs.Numbers.{hoursOfDay, mostDays, mostHours, mostLines, rowCells, totalCells, perGram, mostGrams}
 use Rattle.law.specs.Words.{need, pick, sumOf, table, over, halvesUp}
 use Rattle.law.proofs.Tabled.{table-length, table-at, table-set}
 use Rattle.rules.specs.declared.Head.{Head}
@@ -36,7 +36,7 @@ use Rattle.fuel.proofs.Figures.{line-figure}
 use Rattle.walk.specs.declared.books.Sums.{Sums}
 use Rattle.walk.specs.declared.take.Taken.{Taken}
 use Rattle.walk.specs.Views.{afterEnd}
-use Rattle.walk.specs.Books.{noRows, putFrom, valuesAt, Open, inOpen, Done, CellsKept, Kept}
+use Rattle.walk.specs.Books.{noRows, putFrom, valuesAt, Open, inOpen, Done, DoneKept, CellsKept, Kept}
 use Rattle.walk.specs.Closing.{gramsIn, periodWeight, LineGrams, withGrams}
 use Rattle.walk.specs.Taking.{EndTaken}
 use Rattle.hours.specs.States.{periodStates}
@@ -63,7 +63,7 @@ cells-most {value} {most} c h = subst (λ (l : List ℕ). getD l h 0 ≤ most) (
 
 -- ---- method 1: what is weighed is the sum of the filled hours
 module _ (x : StackLine) (few : length (x .days) ≤ mostDays) where
-  weighed : periodWeight (length (x .days)) (filledCells (periodStates (runMasks (x .days)) (measuredMasks (daysAfter x)) (length (x .days))) (table (λ h. valuesAt (hours x) h .c) mostHours)) (filledCells (periodStates (runMasks (x .days)) (measuredMasks (daysAfter x)) (length (x .days))) (table (λ h. valuesAt (hours x) h .l) mostHours))
+  weighed : periodWeight (hoursOfDay * length (x .days)) (filledCells (periodStates (runMasks (x .days)) (measuredMasks (daysAfter x)) (length (x .days))) (table (λ h. valuesAt (hours x) h .c) mostHours)) (filledCells (periodStates (runMasks (x .days)) (measuredMasks (daysAfter x)) (length (x .days))) (table (λ h. valuesAt (hours x) h .l) mostHours))
       ≡ sumOf amount (hourly filled (ofStack x))
   weighed = ap₂ products (filled-concentrations x few .0) (filled-flows x few .0) ∙ sym (products-amounts (hourly filled (ofStack x)))
 
@@ -95,7 +95,7 @@ seven : (a b c d e f g : ℕ) → table (λ i. getD (a ∷ b ∷ c ∷ d ∷ e �
 unfolding table
 seven a b c d e f g = refl
 
-row-same : (a b c d e f g a' b' c' d' e' f' g' : ℕ) → a ≡ a' → b ≡ b' → c ≡ c' → d ≡ d' → e ≡ e' → f ≡ f' → g ≡ g'
+pub row-same : (a b c d e f g a' b' c' d' e' f' g' : ℕ) → a ≡ a' → b ≡ b' → c ≡ c' → d ≡ d' → e ≡ e' → f ≡ f' → g ≡ g'
     → a ∷ b ∷ c ∷ d ∷ e ∷ f ∷ g ∷ [] ≡ a' ∷ b' ∷ c' ∷ d' ∷ e' ∷ f' ∷ g' ∷ []
 row-same a b c d e f g a' b' c' d' e' f' g' i j k l m n o = cc
 
@@ -105,6 +105,63 @@ row-behind n row rows rest out out' w l r e o =
     ∙ ap₂ (λ (s t : List ℕ). s ++ over w 7 t) (take-at rows (drop n rest) n l) (drop-at rows (drop n rest) n l)
     ∙ ap₂ (λ (s t : List ℕ). rows ++ (s ++ t)) e (drop-drop 7 n rest)
     ∙ sym (append-assoc rows row (drop (n + 7) rest))
+
+-- ---- a line more of either world: its row goes behind the rows, and its grams to the total of its pollutant
+module _ (line : Line) (done : List Line) (v : View) (d d' : Done) (m g first : ℕ) (k : DoneKept done d) (room : length done < mostLines) (lines : v .lines ≡ length done)
+    (pollutant : v .head .pollutant ≡ headOfLine line .pollutant) (in-cells : (1 ≤ v .head .pollutant) × (v .head .pollutant ≤ totalCells))
+    (row-is : rowIn v m g first ≡ rowOf line) (figure : g ≡ gramsOf line) (small : g ≤ mostGrams)
+    (rows : d' .rows ≡ putFrom (λ i. getD (rowIn v m g first) i 0) rowCells (rowCells * v .lines) (d .rows)) (totals : d' .totals ≡ withGrams (d .totals) (v .head .pollutant) g)
+  where
+    rows-now : d' .rows ≡ (rowsOf done ++ rowOf line) ++ drop (rowCells * suc (length done)) noRows
+    rows-now =
+        let n : rowCells * length done + rowCells ≡ rowCells * suc (length done) = omega arith in
+        let w : ℕ → ℕ = λ i. getD (rowIn v m g first) i 0 in
+        row-behind (rowCells * length done) (rowOf line) (rowsOf done) noRows (d .rows) (d' .rows) w (rows-long done) (k .rows) (seven _ _ _ _ _ _ _ ∙ row-is)
+        (rows ∙ ap (λ (i : ℕ). putFrom w rowCells (rowCells * i) (d .rows)) lines)
+        ∙ ap (λ (i : ℕ). (rowsOf done ++ rowOf line) ++ drop i noRows) n
+
+    -- the totals of the lines done, in cells
+    total-at : (i : ℕ) → i < totalCells → getD (d .totals) i 0 ≡ totalOf (i + 1) done
+    unfolding totalsOf
+    total-at i l = ap (λ (t : List ℕ). getD t i 0) (k .totals) ∙ table-at (λ j. totalOf (j + 1) done) totalCells i 0 l
+
+    abbrev own : ℕ
+    own = v .head .pollutant - 1
+
+    own-less : own < totalCells
+    own-less = omega (arith, in-cells)
+
+    own-total : g + getD (d .totals) own 0 ≡ totalOf (own + 1) (line ∷ done)
+    unfolding totalOf sumOf need
+    own-total =
+        let n : headOfLine line .pollutant ≡ own + 1 = omega (arith, pollutant, in-cells) in
+        ap₂ (λ (i j : ℕ). i + j) figure (total-at own own-less) ∙ rw (eq-eqb (headOfLine line .pollutant) (own + 1) n)
+
+    other-total : (i : ℕ) → (i ≡ own → ⊥) → totalOf (i + 1) (line ∷ done) ≡ totalOf (i + 1) done
+    unfolding totalOf sumOf need
+    other-total i n = rw (ne-eqb (headOfLine line .pollutant) (i + 1) (λ q. n (omega (arith, q, pollutant, in-cells)))) (zero-add _)
+
+    totals-now : d' .totals ≡ totalsOf (line ∷ done)
+    unfolding totalsOf
+    totals-now =
+        totals
+        ∙ ap (λ (t : List ℕ). set t own (g + getD (d .totals) own 0)) (k .totals)
+        ∙ table-set (λ i. totalOf (i + 1) done) (λ i. totalOf (i + 1) (line ∷ done)) totalCells own (g + getD (d .totals) own 0) 0 own-less (sym own-total) (λ i l. other-total i)
+
+    total-most : (i : ℕ) → getD (d' .totals) i 0 ≤ suc (length done) * mostGrams
+    total-most i =
+        subst (λ (t : List ℕ). getD t i 0 ≤ suc (length done) * mostGrams) (sym totals)
+        (set-most (d .totals) own (g + getD (d .totals) own 0) (suc (length done) * mostGrams) (λ j. omega (arith, k .most j)) (omega (arith, k .most own, small)) i)
+
+    pub done-more : DoneKept (line ∷ done) d'
+    unfolding rowsOf
+    done-more =
+        record {
+          rows = rows-now;
+          totals = totals-now;
+          most = total-most;
+          long = ap length rows ∙ put-length _ rowCells (rowCells * v .lines) (d .rows) (omega (arith, lines, room, k .long)) ∙ k .long;
+        }
 
 module _ (x : StackLine) (done : List Line) (v : View) (s : Sums) (o : Open) (d : Done)
     (k : Kept (Inside x done) v s o d) (all-days : length (x .days) ≡ x .head .days)
@@ -165,8 +222,8 @@ module _ (x : StackLine) (done : List Line) (v : View) (s : Sums) (o : Open) (d 
           let w : flow' ≡ filledCells (state (length (x .days))) (table (λ h. valuesAt (hours x) h .l) mostHours) = f .flows ∙ ap₂ (λ (n : ℕ) (t : List ℕ). filledCells (state n) t) v-days (k .books .flows .hold) in
           record {
             figure =
-                f .grams ∙ ap (λ (n : ℕ). halvesUp (periodWeight n conc' flow') perGram) v-days
-                ∙ ap₂ (λ (i j : List ℕ). halvesUp (periodWeight (length (x .days)) i j) perGram) c w
+                f .grams ∙ ap (λ (n : ℕ). halvesUp (periodWeight (hoursOfDay * n) conc' flow') perGram) v-days
+                ∙ ap₂ (λ (i j : List ℕ). halvesUp (periodWeight (hoursOfDay * length (x .days)) i j) perGram) c w
                 ∙ ap (λ (n : ℕ). halvesUp n perGram) (weighed x few) ∙ sym (grams-automatic x z);
             concentrations = c ∙ filled-concentrations x few .1 ∙ ap (λ (w : List Values). cells (cs w)) (sym (held-filled x t));
             flows = w ∙ filled-flows x few .1 ∙ ap (λ (vs : List Values). cells (ls vs)) (sym (held-filled x t));
@@ -201,49 +258,8 @@ module _ (x : StackLine) (done : List Line) (v : View) (s : Sums) (o : Open) (d 
           row-same _ _ _ _ _ _ _ _ _ _ _ _ _ _ (ap (λ (h : Head). h .stack) v-head) (ap (λ (h : Head). h .pollutant) v-head)
           v-method (shut .figure) v-running v-missing (ap (firstMissing (runMasks (x .days)) (measuredMasks (daysAfter x))) v-days)
 
-      rows-now : d' .rows ≡ (rowsOf done ++ stackRow x) ++ drop (rowCells * suc (length done)) noRows
-      rows-now =
-          let n : rowCells * length done + rowCells ≡ rowCells * suc (length done) = omega arith in
-          let w : ℕ → ℕ = λ i. getD (rowIn v (lineMethod v) (e .grams) lineFirst) i 0 in
-          row-behind (rowCells * length done) (stackRow x) (rowsOf done) noRows (d .rows) (d' .rows) w (rows-long done) (k .done .rows) (seven _ _ _ _ _ _ _ ∙ row-is)
-          (e .rowsNow ∙ ap (λ (i : ℕ). putFrom w rowCells (rowCells * i) (d .rows)) v-lines)
-          ∙ ap (λ (i : ℕ). (rowsOf done ++ stackRow x) ++ drop i noRows) n
-
-      -- the totals of the lines done, in cells
-      total-at : (i : ℕ) → i < totalCells → getD (d .totals) i 0 ≡ totalOf (i + 1) done
-      unfolding totalsOf
-      total-at i l = ap (λ (t : List ℕ). getD t i 0) (k .done .totals) ∙ table-at (λ j. totalOf (j + 1) done) totalCells i 0 l
-
-      abbrev own : ℕ
-      own = v .head .pollutant - 1
-
-      own-less : own < totalCells
-      own-less = omega (arith, v-pollutant, k .books .pollutant)
-
-      own-total : e .grams + getD (d .totals) own 0 ≡ totalOf (own + 1) (OfStack x ∷ done)
-      unfolding totalOf sumOf need headOfLine gramsOf
-      own-total =
-          let n : x .head .pollutant ≡ own + 1 = omega (arith, v-pollutant, k .books .pollutant) in
-          ap₂ (λ (i j : ℕ). i + j) (shut .figure) (total-at own own-less) ∙ rw (eq-eqb (x .head .pollutant) (own + 1) n)
-
-      other-total : (i : ℕ) → (i ≡ own → ⊥) → totalOf (i + 1) (OfStack x ∷ done) ≡ totalOf (i + 1) done
-      unfolding totalOf sumOf need headOfLine gramsOf
-      other-total i n = rw (ne-eqb (x .head .pollutant) (i + 1) (λ q. n (omega (arith, q, v-pollutant, k .books .pollutant)))) (zero-add _)
-
-      totals-now : d' .totals ≡ totalsOf (OfStack x ∷ done)
-      unfolding totalsOf
-      totals-now =
-          e .totalsNow
-          ∙ ap (λ (t : List ℕ). set t own (e .grams + getD (d .totals) own 0)) (k .done .totals)
-          ∙ table-set (λ i. totalOf (i + 1) done) (λ i. totalOf (i + 1) (OfStack x ∷ done)) totalCells own (e .grams + getD (d .totals) own 0) 0 own-less (sym own-total) (λ i l. other-total i)
-
-      total-most : (i : ℕ) → getD (d' .totals) i 0 ≤ suc (length done) * mostGrams
-      total-most i =
-          subst (λ (t : List ℕ). getD t i 0 ≤ suc (length done) * mostGrams) (sym (e .totalsNow))
-          (set-most (d .totals) own (e .grams + getD (d .totals) own 0) (suc (length done) * mostGrams) (λ j. omega (arith, k .done .most j)) (omega (arith, k .done .most own, e .small)) i)
-
       pub kept-end : Kept (Between (OfStack x ∷ done)) (r .view) (r .sums) (inOpen (o .runs) (o .measured) (o .states) (o .flags) conc' flow') d'
-      unfolding rowsOf rowOf held concentrationCells flowCells cs ls
+      unfolding rowOf gramsOf headOfLine held concentrationCells flowCells cs ls
       kept-end =
           let c = shut .concentrations in
           let l = shut .flows in
@@ -252,12 +268,8 @@ module _ (x : StackLine) (done : List Line) (v : View) (s : Sums) (o : Open) (d 
             view = e .view ∙ ap afterEnd (k .view) ∙ view-end x done;
             lines = omega (arith, k .lines);
             done =
-                record {
-                  rows = rows-now;
-                  totals = totals-now;
-                  most = total-most;
-                  long = ap length (e .rowsNow) ∙ put-length _ rowCells (rowCells * v .lines) (d .rows) (omega (arith, v-lines, k .lines, k .done .long)) ∙ k .done .long;
-                };
+                done-more (OfStack x) done v d d' (lineMethod v) (e .grams) lineFirst (k .done) (omega (arith, k .lines)) v-lines (v-pollutant ∙ refl)
+                (omega (arith, v-pollutant, k .books .pollutant), omega (arith, v-pollutant, k .books .pollutant)) row-is (shut .figure) (e .small) (e .rowsNow) (e .totalsNow);
             long =
                 record {
                   runs = k .long .runs;

@@ -1,6 +1,6 @@
 -- The loop of the walk: the code's state stands for some lines, from which the rules' walk goes on to the file's outcome. Assumes nothing.
 use mathlib.Core.Path.{_≡_, refl, _∙_, sym, ap, subst}
-use mathlib.Core.Bool.{Bool, true, false, true≢false, not}
+use mathlib.Core.Bool.{Bool, true, false, true≢false, not, _||_}
 use mathlib.Core.List.{List, []}
 use Prim.Native.Nat.{ℕ, zero, suc, _+_, _-_, _<_, _≤_}
 use native.Mathlib.Omega.{arith}
@@ -20,7 +20,7 @@ use Rattle.rules.specs.OnPaper.{recordOnPaper}
 use Rattle.rules.proofs.OnPaper.{record-only}
 use Rattle.rules.specs.Judge.{refuse, fine, first, judgeRecord, judgeReadings, judge, atPlace}
 use Rattle.rules.specs.Row.{rowsOf, totalOf, totalsOf, cells, concentrationCells, flowCells}
-use Rattle.rules.specs.Walk.{Stand, Between, Inside, viewOf, runsOf, taken, ended, faultOf, walk, Refused, outcome}
+use Rattle.rules.specs.Walk.{Stand, Between, Inside, InWater, viewOf, runsOf, taken, ended, faultOf, walk, Refused, outcome}
 use Rattle.rules.proofs.Faults.{Within, stands-zero, at-place-number}
 use Rattle.rules.proofs.Records.{size-some, record-whole}
 use Rattle.judge.proofs.Laws.{record-stands, record-within, readings-within, judge-refused, judge-passed, bad-refused}
@@ -110,6 +110,7 @@ lent-stand : (stand : Stand) (v : View) (s : Sums) (o : Open) (d : Done) → Kep
 unfolding viewOf runsOf
 lent-stand (Between done) v s o d k = ap (λ (w : View). take (w .days) (o .runs)) (k .view)
 lent-stand (Inside x done) v s o d k = ap (λ (w : View). take (w .days) (o .runs)) (k .view) ∙ k .books .masks .runsKept
+lent-stand (InWater x done) v s o d k = ap (λ (w : View). take (w .days) (o .runs)) (k .view) ∙ k .books .runs
 
 module _ (file : List ℕ) (v : View) (s : Sums) (at : ℕ) (o : Open) (d : Done) (g : Going file v s at o d) (more : at < length file) where
   abbrev bytes : List ℕ
@@ -203,10 +204,11 @@ module _ (file : List ℕ) (v : View) (s : Sums) (at : ℕ) (o : Open) (d : Done
         step-on n q e m = rw (m, e) (moves (eqb (t .fault .number) 0) refl)
 
 -- ---- the file's end
-open-case : (file : List ℕ) (stand : Stand) → viewOf stand .inside ≡ true → ended file stand ≡ Refused (refuse 2 (length file))
+open-case : (file : List ℕ) (stand : Stand) → (viewOf stand .inside || viewOf stand .water) ≡ true → ended file stand ≡ Refused (refuse 2 (length file))
 unfolding viewOf ended
 open-case file (Between done) e = absurd (true≢false (sym e))
 open-case file (Inside x done) e = refl
+open-case file (InWater x done) e = refl
 
 module _ (file : List ℕ) (p : Progress) (o : Open) (d : Done) (h : Reached file p o d) (over : length file ≤ p .at) where
   module _ (zero-f : p .fault .number ≡ 0) where
@@ -216,7 +218,7 @@ module _ (file : List ℕ) (p : Progress) (o : Open) (d : Done) (h : Reached fil
     at-end : outcome file ≡ ended file (g .stand)
     at-end = sym (g .rest) ∙ walk-ended file (p .at) (g .stand) (g .most) over
 
-    closed-by : (stand : Stand) → stand ≡ g .stand → p .view .inside ≡ false → (w : Tally) → w .lines ≡ p .view .lines → Ended file d (o .concentrations) (o .flows) w
+    closed-by : (stand : Stand) → stand ≡ g .stand → (p .view .inside || p .view .water) ≡ false → (w : Tally) → w .lines ≡ p .view .lines → Ended file d (o .concentrations) (o .flows) w
     unfolding viewOf ended
     closed-by (Between done) q e w l =
         let k = subst (λ (x : Stand). Kept x (p .view) (p .sums) o d) (sym q) (g .kept) in
@@ -230,18 +232,19 @@ module _ (file : List ℕ) (p : Progress) (o : Open) (d : Done) (h : Reached fil
           concHeld = k .books .concHeld;
           flowHeld = k .books .flowHeld;
         }
-    closed-by (Inside x done) q e w l = absurd (true≢false (sym (ap (λ (x : View). x .inside) (g .kept .view ∙ ap viewOf (sym q))) ∙ e))
+    closed-by (Inside x done) q e w l = absurd (true≢false (sym (ap (λ (x : View). x .inside || x .water) (g .kept .view ∙ ap viewOf (sym q))) ∙ e))
+    closed-by (InWater x done) q e w l = absurd (true≢false (sym (ap (λ (x : View). x .inside || x .water) (g .kept .view ∙ ap viewOf (sym q))) ∙ e))
 
   abbrev foundBy : Bool → Bool → Tally
   foundBy a b = record { fault = need (p .fault) a (need (refuse 2 (length file)) (not b) fine); lines = p .view .lines }
 
-  ends-by : (a b : Bool) → eqb (p .fault .number) 0 ≡ a → p .view .inside ≡ b → WalkPromise file d (o .concentrations) (o .flows) (foundBy a b)
+  ends-by : (a b : Bool) → eqb (p .fault .number) 0 ≡ a → (p .view .inside || p .view .water) ≡ b → WalkPromise file d (o .concentrations) (o .flows) (foundBy a b)
   unfolding need fine refuse
   ends-by false b e i = let n = eqb-false (p .fault .number) 0 e in record { refuses = λ _. h .refuses n; ends = λ z. absurd (n z) }
   ends-by true true e i =
       let z = eqb-true (p .fault .number) 0 e in
       record {
-        refuses = λ _. at-end z ∙ open-case file (g z .stand) (sym (ap (λ (w : View). w .inside) (g z .kept .view)) ∙ i);
+        refuses = λ _. at-end z ∙ open-case file (g z .stand) (sym (ap (λ (w : View). w .inside || w .water) (g z .kept .view)) ∙ i);
         ends = λ q. absurd (omega arith);
       }
   ends-by true false e i =
@@ -250,4 +253,4 @@ module _ (file : List ℕ) (p : Progress) (o : Open) (d : Done) (h : Reached fil
 
   pub walk-promise : (w : Tally) → w ≡ foundOf p (length file) → WalkPromise file d (o .concentrations) (o .flows) w
   unfolding first
-  walk-promise w e = rw e (ends-by (eqb (p .fault .number) 0) (p .view .inside) refl refl)
+  walk-promise w e = rw e (ends-by (eqb (p .fault .number) 0) (p .view .inside || p .view .water) refl refl)

@@ -5,12 +5,15 @@ pub mod Products
 pub mod Views
 pub mod Cleared
 pub mod Steps
+pub mod Daily
 pub mod Filled
 pub mod Closed
 pub mod Surveyed
 pub mod Standing
 pub mod Ending
+pub mod Outfalls
 pub mod Takes
+pub mod Dispatch
 pub mod Going
 pub mod Promises
 pub mod Only

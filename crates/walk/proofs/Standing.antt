@@ -45,10 +45,10 @@ use Rattle.walk.proofs.Steps.{begun-books, day-books, enforcement-books
 books-as : (x : StackLine) {s t : Sums} {o p : Open} → LineBooks x s o → t ≡ s → p ≡ o → LineBooks x t p
 books-as x k a b = rw (a, b) k
 
-open-is : (a b c e f g a' b' c' e' f' g' : List ℕ) → a ≡ a' → b ≡ b' → c ≡ c' → e ≡ e' → f ≡ f' → g ≡ g' → inOpen a b c e f g ≡ inOpen a' b' c' e' f' g'
+pub open-is : (a b c e f g a' b' c' e' f' g' : List ℕ) → a ≡ a' → b ≡ b' → c ≡ c' → e ≡ e' → f ≡ f' → g ≡ g' → inOpen a b c e f g ≡ inOpen a' b' c' e' f' g'
 open-is a b c e f g a' b' c' e' f' g' p q r s t u = cc
 
-long-as : {o : Open} (a b c e f g : List ℕ) → Long o → length a ≡ length (o .runs) → length b ≡ length (o .measured) → length c ≡ length (o .states) → length e ≡ length (o .flags)
+pub long-as : {o : Open} (a b c e f g : List ℕ) → Long o → length a ≡ length (o .runs) → length b ≡ length (o .measured) → length c ≡ length (o .states) → length e ≡ length (o .flags)
     → length f ≡ length (o .concentrations) → length g ≡ length (o .flows) → Long (inOpen a b c e f g)
 long-as a b c e f g l p q r s t u =
     record {
@@ -60,24 +60,38 @@ long-as a b c e f g l p q r s t u =
       flows = u ∙ l .flows;
     }
 
--- ---- a head
+-- ---- a head of either world: flags and cells are 0
+abbrev zeros : List ℕ
+zeros = table (λ i. 0) mostHours
+
+module _ {done : List Line} {v : View} {s : Sums} {o : Open} {d : Done} (k : Kept (Between done) v s o d) where
+  pub head-cleared : (h : Head) (water : Bool) (flags' conc' flow' : List ℕ) (r : Taken) → HeadTaken v s h water (o .flags) (o .concentrations) (o .flows) flags' conc' flow' r
+      → (flags' ≡ zeros) × (conc' ≡ zeros) × (flow' ≡ zeros)
+  head-cleared h water flags' conc' flow' r t =
+      let b = k .books in
+      let l = k .long in (
+        t .flagsNow ∙ cleared-all (o .flags) (s .used) (b .flagsPast) (l .flags) (b .usedMost),
+        t .concNow ∙ cleared-all (o .concentrations) (s .used) (b .concPast) (l .concentrations) (b .usedMost),
+        t .flowNow ∙ cleared-all (o .flows) (s .used) (b .flowPast) (l .flows) (b .usedMost),
+      )
+
+  pub head-long : (flags' conc' flow' : List ℕ) → (flags' ≡ zeros) × (conc' ≡ zeros) × (flow' ≡ zeros) → Long (inOpen (o .runs) (o .measured) (o .states) flags' conc' flow')
+  head-long flags' conc' flow' z =
+      let l = k .long in
+      let n : length zeros ≡ mostHours = table-length (λ i. 0) mostHours in
+      record { runs = l .runs; measured = l .measured; states = l .states; flags = ap length (z .0) ∙ n; concentrations = ap length (z .1) ∙ n; flows = ap length (z .2) ∙ n }
+
 pub kept-head : (done : List Line) (v : View) (s : Sums) (h : Head) (o : Open) (d : Done) (flags' conc' flow' : List ℕ) (r : Taken)
     → Kept (Between done) v s o d → h .days ≤ mostDays → (1 ≤ h .pollutant) × (h .pollutant ≤ totalCells) → length done < mostLines
-    → HeadTaken v s h (o .flags) (o .concentrations) (o .flows) flags' conc' flow' r → Kept (Inside (begun h) done) (r .view) (r .sums) (inOpen (o .runs) (o .measured) (o .states) flags' conc' flow') d
+    → HeadTaken v s h false (o .flags) (o .concentrations) (o .flows) flags' conc' flow' r → Kept (Inside (begun h) done) (r .view) (r .sums) (inOpen (o .runs) (o .measured) (o .states) flags' conc' flow') d
 kept-head done v s h o d flags' conc' flow' r k days p room t =
-    let b = k .books in
-    let l = k .long in
-    let zeros : List ℕ = table (λ i. 0) mostHours in
-    let f : flags' ≡ zeros = t .flagsNow ∙ cleared-all (o .flags) (s .used) (b .flagsPast) (l .flags) (b .usedMost) in
-    let c : conc' ≡ zeros = t .concNow ∙ cleared-all (o .concentrations) (s .used) (b .concPast) (l .concentrations) (b .usedMost) in
-    let w : flow' ≡ zeros = t .flowNow ∙ cleared-all (o .flows) (s .used) (b .flowPast) (l .flows) (b .usedMost) in
-    let n : length zeros ≡ mostHours = table-length (λ i. 0) mostHours in
+    let z = head-cleared k h false flags' conc' flow' r t in
     record {
-      view = t .view ∙ ap (λ (u : View). afterHead u h) (k .view) ∙ view-head done h;
+      view = t .view ∙ ap (λ (u : View). afterHead u h false) (k .view) ∙ view-head done h;
       lines = omega arith;
       done = k .done;
-      long = record { runs = l .runs; measured = l .measured; states = l .states; flags = ap length f ∙ n; concentrations = ap length c ∙ n; flows = ap length w ∙ n };
-      books = books-as (begun h) (begun-books h (o .runs) (o .measured) (o .states) days p) (t .sums) (open-is _ _ _ _ _ _ _ _ _ _ _ _ refl refl refl f c w);
+      long = head-long k _ _ _ z;
+      books = books-as (begun h) (begun-books h (o .runs) (o .measured) (o .states) days p) (t .sums) (open-is _ _ _ _ _ _ _ _ _ _ _ _ refl refl refl (z .0) (z .1) (z .2));
     }
 
 -- ---- a record of the open line: the lines that are done stay
@@ -153,13 +167,13 @@ unfolding valuesOf
 most-l t e = e .flow-most
 
 -- a survey that is beaten adds nothing
-adds-nothing : (s : Sums) → withSurvey s nothing ≡ s
+pub adds-nothing : (s : Sums) → withSurvey s nothing ≡ s
 adds-nothing s =
     let n : s .surveyed + 0 ≡ s .surveyed = omega arith in
     let w : 0 + s .weight ≡ s .weight = omega arith in
     ap₂ (λ (i j : ℕ). record { surveyed = i; weight = j; sulphur = s .sulphur; ash = s .ash; used = s .used }) n w
 
-flag-bit : (b : Bool) → eqb (pick b 1 0) 1 ≡ b
+pub flag-bit : (b : Bool) → eqb (pick b 1 0) 1 ≡ b
 unfolding pick
 flag-bit true = refl
 flag-bit false = refl

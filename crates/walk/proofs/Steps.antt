@@ -43,7 +43,7 @@ begun-cells h f most z =
     record { hold = table-same (λ k. 0) (λ k. f (valuesAt (hours (begun h)) k)) mostHours (λ k m. sym (none k)); within = λ k. omega (arith, none k) }
 
 pub begun-books : (h : Head) (runs measured states : List ℕ) → h .days ≤ mostDays → (1 ≤ h .pollutant) × (h .pollutant ≤ totalCells)
-    → LineBooks (begun h) (openedSums h) (inOpen runs measured states (table (λ k. 0) mostHours) (table (λ k. 0) mostHours) (table (λ k. 0) mostHours))
+    → LineBooks (begun h) (openedSums h false) (inOpen runs measured states (table (λ k. 0) mostHours) (table (λ k. 0) mostHours) (table (λ k. 0) mostHours))
 unfolding begun table runMasks measuredMasks surveys surveyed besides daysAfter putSurveys sulphurOf ashOf sumOf largest flagAt hasSurvey pick zeroes
 begun-books h runs measured states l p =
     record {
@@ -146,7 +146,7 @@ unfolding pick
 one-most true ss s n l = omega arith
 one-most false ss s n l = omega arith
 
-besides-most : (others ss : List Survey) → length (besides others ss) ≤ length ss
+pub besides-most : (others ss : List Survey) → length (besides others ss) ≤ length ss
 unfolding besides
 besides-most others [] = omega arith
 besides-most others (s ∷ ss) = one-most (hasSurvey (s .hour) others) (besides others ss) s (length ss) (besides-most others ss)
@@ -163,7 +163,7 @@ survey-books : (x : StackLine) (es ps : List Survey) (t' : Sums) {t : Sums} {o :
     → length (x .days) ≡ x .head .days → length es + length ps ≤ mostSurveys → t' .sulphur ≡ t .sulphur → t' .ash ≡ t .ash → t' .used ≡ t .used
     → MasksKept (withOther x es ps) (o' .runs) (o' .measured) (o' .states)
     → CellsKept (λ h. valuesAt (hours (withOther x es ps)) h .c) mostConcentration (o' .concentrations) → CellsKept (λ h. valuesAt (hours (withOther x es ps)) h .l) mostFlow (o' .flows)
-    → SurveysKept (x .head .days) es (surveyed (withOther x es ps)) (t' .surveyed) (t' .weight) (o' .flags) → LineBooks (withOther x es ps) t' o'
+    → SurveysKept (hoursOfDay * x .head .days) es (surveyed (withOther x es ps)) (t' .surveyed) (t' .weight) (o' .flags) → LineBooks (withOther x es ps) t' o'
 unfolding surveys
 survey-books x es ps t' o' k all-days few s a u m c l y =
     record {
@@ -228,7 +228,7 @@ module _ (x : StackLine) (es ps : List Survey) (s : Survey) where
       -- one survey more, by its count and its amount
       stood-surveys : (flags' : List ℕ) → flags' ≡ table (flagAt es) mostHours → ((h : ℕ) → hoursOfDay * x .head .days ≤ h → getD flags' h 0 ≡ 0)
           → valuesOf (s .pair) .c ≤ mostConcentration → valuesOf (s .pair) .l ≤ mostFlow
-          → SurveysKept (x .head .days) es (surveyed y) (t .surveyed + 1) (valuesOf (s .pair) .c * valuesOf (s .pair) .l + t .weight) flags'
+          → SurveysKept (hoursOfDay * x .head .days) es (surveyed y) (t .surveyed + 1) (valuesOf (s .pair) .c * valuesOf (s .pair) .l + t .weight) flags'
       unfolding sumOf amount surveyValues
       stood-surveys flags' flagged past cm lm =
           let y = k .surveys in
@@ -323,7 +323,7 @@ module _ (x : StackLine) (s : Survey) (beaten : hasSurvey (s .hour) (x .enforcem
       survey-books x (x .enforcement) (s ∷ x .plant) t o k all-days (omega arith) refl refl refl
       (record { runsKept = k .masks .runsKept; measuredKept = k .masks .measuredKept ∙ sym (ap measuredMasks days-beaten); statesKept = k .masks .statesKept })
       (beaten-cells (λ v. v .c) mostConcentration (o .concentrations) (k .concentrations)) (beaten-cells (λ v. v .l) mostFlow (o .flows) (k .flows))
-      (subst (λ (l : List Survey). SurveysKept (x .head .days) (x .enforcement) l (t .surveyed) (t .weight) (o .flags)) (sym (planted-second x s beaten)) (k .surveys))
+      (subst (λ (l : List Survey). SurveysKept (hoursOfDay * x .head .days) (x .enforcement) l (t .surveyed) (t .weight) (o .flags)) (sym (planted-second x s beaten)) (k .surveys))
 
 -- ---- a batch: no hour and no survey changes
 pub batch-books : (x : StackLine) (f : Batch) {t : Sums} {o : Open} → LineBooks x t o

@@ -1,6 +1,6 @@
 -- What each kind of record asks when it is taken in, and that the books then stand for the lines. Assumes nothing.
 use mathlib.Core.Path.{_≡_, refl, _∙_, sym, ap, subst, subst₂}
-use mathlib.Core.Bool.{Bool, true, false, true≢false}
+use mathlib.Core.Bool.{Bool, true, false, true≢false, _||_}
 use mathlib.Core.List.{List, [], _∷_}
 use Prim.Native.Nat.{ℕ, zero, suc, _+_, _*_, _<_, _≤_}
 use native.Mathlib.Omega.{arith}
@@ -9,7 +9,9 @@ use Rattle.law.specs.Numbers.{hoursOfDay, mostDays, mostHours, mostLines, mostS
 use Rattle.rules.specs.declared.Head.{Head}
 use Rattle.rules.specs.declared.Masks.{Masks}
 use Rattle.rules.specs.declared.Record.{Record}
-use Rattle.rules.specs.declared.Record.the-variants.{Bad, OfHead, OfDay, OfEnforcement, OfPlant, OfBatch, OfEnd}
+use Rattle.rules.specs.declared.Record.the-variants.{Bad, OfHead, OfDay, OfEnforcement, OfPlant, OfBatch, OfEnd, OfWater}
+use Rattle.rules.specs.declared.Water.{Water}
+use Rattle.rules.specs.declared.Water.the-variants.{OfOutfallHead, OfOutfallDay, OfOutfallEnforcement, OfOutfallPlant}
 use Rattle.rules.specs.declared.Survey.{Survey}
 use Rattle.rules.specs.declared.Batch.{Batch}
 use Rattle.rules.specs.declared.View.{View}
@@ -18,30 +20,34 @@ use Rattle.rules.specs.declared.Coefficients.the-variants.{Balance, Oxides, Dus
 use Rattle.rules.specs.Grams.{sulphurOf}
 use Rattle.rules.specs.Hours.{runMasks, measuredMasks, firstMissing, running, lacking}
 use Rattle.rules.specs.Lines.{StackLine, daysAfter, surveys, fuel}
-use Rattle.rules.specs.Outfalls.{Line, OfStack}
+use Rattle.rules.specs.Outfalls.{OutfallLine, outfallSurveys, Line, OfStack, OfOutfall, asHead}
 use Rattle.rules.proofs.Surveyed.{days-length, days-runs, days-no-more, found-most}
 use Rattle.line.specs.Put.{Tables, inTables}
-use Rattle.rules.specs.Method.{isAutomatic, isManual, methodOf, method}
+use Rattle.rules.specs.Method.{isAutomatic, isManual, methodOf, method, outfallMethod}
 use Rattle.rules.specs.Tables.{coefficientsOf}
 use lib.Dec.{eqb}
 use Rattle.law.proofs.Tests.{pick-case}
 use Rattle.rules.specs.Judge.{fine, lineMethod, judgeRecord, judgeReadings}
 use Rattle.rules.proofs.Faults.{Stands, stands-zero}
-use Rattle.rules.specs.Walk.{Stand, Between, Inside, viewOf, runsOf, taken, takenBetween, takenInside}
+use Rattle.rules.specs.Walk.{Stand, Between, Inside, InWater, viewOf, runsOf, taken, takenBetween, takenInside, takenInWater, waterBetween, waterInside}
 use Rattle.rules.proofs.Records.{day-in}
 use Rattle.day.proofs.Laws.{PairAccepted}
-use Rattle.judge.proofs.Laws.{SurveyOk, EndOk, readings-stand, head-ok, day-ok, enforcement-ok, plant-ok, batch-ok, end-ok, bad-refused}
+use Rattle.judge.proofs.Laws.{SurveyOk, EndOk, readings-stand, head-ok, day-ok, enforcement-ok, plant-ok, batch-ok, end-ok, bad-refused, outfall-ok, water-day-ok, day-enforcement-ok, day-plant-ok}
 use Rattle.hours.proofs.Laws.{running-period, missing-period}
 use Rattle.walk.specs.declared.books.Sums.{Sums}
 use Rattle.walk.specs.declared.take.Taken.{Taken}
 use Rattle.walk.specs.Books.{Open, inOpen, Done, Kept}
-use Rattle.walk.specs.Taking.{HeadTaken, DayReady, DayTaken, SurveyReady, EnforcementTaken, PlantTaken, BatchTaken, EndReady, EndTaken}
+use Rattle.walk.specs.Taking.{HeadTaken, DayReady, DayTaken, SurveyReady, EnforcementTaken, PlantTaken, BatchTaken, EndReady, EndTaken, CloseReady, Closed, WaterDayReady, WaterEndReady, WaterEndTaken, WaterReady, WaterTaken}
 use Rattle.walk.specs.Walking.{Ready, Took}
 use Rattle.walk.proofs.Standing.{kept-head, kept-day, kept-enforcement, kept-plant, kept-batch}
 use Rattle.walk.proofs.Ending.{method-is, cells-most, kept-end}
 use Rattle.walk.proofs.Masks.{states-kept, first-kept, found-kept}
 use Rattle.walk.proofs.Steps.{surveyed-most}
-use Rattle.rules.proofs.Method.{manual-surveyed}
+use Rattle.rules.proofs.Method.{manual-surveyed, outfall-surveyed}
+use Rattle.hours.specs.Marks.{foundBy}
+use Rattle.line.specs.Days.{lacksOn, firstLacking}
+use Rattle.walk.proofs.Daily.{found-within, running-most, missing-most}
+use Rattle.walk.proofs.Outfalls.{daily-is, daily-most, daily-two, days-surveyed-most, kept-outfall, kept-water-day, kept-day-enforcement, kept-day-plant, kept-water-end}
 use Rattle.walk.specs.Closing.{gramsIn}
 use Rattle.hours.specs.States.{periodStates}
 use Rattle.fuel.specs.Fuel.{fuelFigure, ashOf, InRange}
@@ -50,23 +56,34 @@ use Rattle.fuel.proofs.Figures.{line-figure, line-wanting, grams-fit}
 use Rattle.walk.proofs.Views.{survey-count}
 
 -- ---- inside a line or between two
-between-out : (done : List Line) (v : View) → v ≡ viewOf (Between done) → v .inside ≡ true → ⊥
-unfolding viewOf
-between-out done v e t = true≢false (sym t ∙ ap (λ (w : View). w .inside) e)
-
-inside-in : (x : StackLine) (done : List Line) (v : View) → v ≡ viewOf (Inside x done) → v .inside ≡ false → ⊥
-unfolding viewOf
-inside-in x done v e t = true≢false (sym (ap (λ (w : View). w .inside) e) ∙ t)
-
 -- a record that only an open line takes finds one: what holds wherever a line is open holds where the walk stands
 in-line : (stand : Stand) (v : View) → v ≡ viewOf stand → v .inside ≡ true → (P : Stand → Type 0) → ((x : StackLine) (done : List Line) → P (Inside x done)) → P stand
-in-line (Between done) v e t P f = absurd (between-out done v e t)
+unfolding viewOf
+in-line (Between done) v e t P f = absurd (true≢false (sym t ∙ ap (λ (w : View). w .inside) e))
 in-line (Inside x done) v e t P f = f x done
+in-line (InWater x done) v e t P f = absurd (true≢false (sym t ∙ ap (λ (w : View). w .inside) e))
+
+-- the same of an outfall
+in-water : (stand : Stand) (v : View) → v ≡ viewOf stand → v .water ≡ true → (P : Stand → Type 0) → ((x : OutfallLine) (done : List Line) → P (InWater x done)) → P stand
+unfolding viewOf
+in-water (Between done) v e t P f = absurd (true≢false (sym t ∙ ap (λ (w : View). w .water) e))
+in-water (Inside x done) v e t P f = absurd (true≢false (sym t ∙ ap (λ (w : View). w .water) e))
+in-water (InWater x done) v e t P f = f x done
+
+-- an end finds a line of either
+in-either : (stand : Stand) (v : View) → v ≡ viewOf stand → (v .inside || v .water) ≡ true → (P : Stand → Type 0) → ((x : StackLine) (done : List Line) → v .water ≡ false → P (Inside x done))
+    → ((x : OutfallLine) (done : List Line) → v .water ≡ true → P (InWater x done)) → P stand
+unfolding viewOf
+in-either (Between done) v e t P f g = absurd (true≢false (sym t ∙ ap (λ (w : View). w .inside || w .water) e))
+in-either (Inside x done) v e t P f g = f x done (ap (λ (w : View). w .water) e)
+in-either (InWater x done) v e t P f g = g x done (ap (λ (w : View). w .water) e)
 
 -- and a head finds none
-between-lines : (stand : Stand) (v : View) → v ≡ viewOf stand → v .inside ≡ false → (P : Stand → Type 0) → ((done : List Line) → P (Between done)) → P stand
+between-lines : (stand : Stand) (v : View) → v ≡ viewOf stand → (v .inside || v .water) ≡ false → (P : Stand → Type 0) → ((done : List Line) → P (Between done)) → P stand
+unfolding viewOf
 between-lines (Between done) v e t P f = f done
-between-lines (Inside x done) v e t P f = absurd (inside-in x done v e t)
+between-lines (Inside x done) v e t P f = absurd (true≢false (sym (ap (λ (w : View). w .inside || w .water) e) ∙ t))
+between-lines (InWater x done) v e t P f = absurd (true≢false (sym (ap (λ (w : View). w .inside || w .water) e) ∙ t))
 
 lines-left : (done : List Line) (v : View) → v ≡ viewOf (Between done) → v .lines < mostLines → length done < mostLines
 unfolding viewOf
@@ -134,7 +151,7 @@ module _ (bytes : List ℕ) (v : View) (s : Sums) (o : Open) (d : Done) where
       (λ done y. (y .books .usedMost, y .long .concentrations, y .long .flows)) (k .kept)
 
   pub took-head : (stand : Stand) (r : Record) (h : Head) (flags' conc' flow' : List ℕ) (t : Taken) → r ≡ OfHead h → Ready stand bytes r v s o d
-      → HeadTaken v s h (o .flags) (o .concentrations) (o .flows) flags' conc' flow' t → Took stand bytes r t (inOpen (o .runs) (o .measured) (o .states) flags' conc' flow') d
+      → HeadTaken v s h false (o .flags) (o .concentrations) (o .flows) flags' conc' flow' t → Took stand bytes r t (inOpen (o .runs) (o .measured) (o .states) flags' conc' flow') d
   unfolding taken takenBetween judgeReadings
   took-head stand r h flags' conc' flow' t q k e =
       let ok = head-ok v (runsOf stand) h (judged stand r (OfHead h) q k) in
@@ -172,7 +189,7 @@ module _ (bytes : List ℕ) (v : View) (s : Sums) (o : Open) (d : Done) where
     pub room : surveys x < mostSurveys
     pub pair : PairAccepted (t .pair)
 
-  survey-facts : (x : StackLine) (done : List Line) (t : Survey) → v ≡ viewOf (Inside x done) → SurveyOk v t → SurveyFacts x t
+  survey-facts : (x : StackLine) (done : List Line) (t : Survey) → v ≡ viewOf (Inside x done) → SurveyOk (v .inside) (hoursOfDay * v .head .days) v t → SurveyFacts x t
   unfolding viewOf surveys
   survey-facts x done t e ok =
       record {
@@ -220,33 +237,58 @@ module _ (bytes : List ℕ) (v : View) (s : Sums) (o : Open) (d : Done) where
       (λ x done y. kept-batch x done v s b o d u y (omega (arith, ok .fuel-most, ap (λ (w : View). w .fuel) (y .view))) (ok .sulphur-most) (ok .ash-most) e) (k .kept))
 
   -- ---- an end
-  no-entry : (x : StackLine) (done : List Line) → v ≡ viewOf (Inside x done) → EndOk v → (method x ≡ 1 → ⊥) → (method x ≡ 2 → ⊥) → coefficientsOf (x .head) ≡ NoEntry → ⊥
+  no-entry : (x : StackLine) (done : List Line) → v ≡ viewOf (Inside x done) → v .water ≡ false → EndOk v → (method x ≡ 1 → ⊥) → (method x ≡ 2 → ⊥) → coefficientsOf (x .head) ≡ NoEntry → ⊥
   unfolding viewOf
-  no-entry x done e ok n m q =
-      ok .by-fuel (subst (λ (i : ℕ). 2 < i) (sym (ap lineMethod e ∙ method-is x done)) (above-two (method x) (method-least x) n m)) .1
+  no-entry x done e w ok n m q =
+      ok .by-fuel w (subst (λ (i : ℕ). 2 < i) (sym (ap lineMethod e ∙ method-is x done)) (above-two (method x) (method-least x) n m)) .1
       (ap (λ (w : View). coefficientsOf (w .head)) e ∙ q)
 
-  pub took-end : (stand : Stand) (r : Record) (conc' flow' : List ℕ) (d' : Done) (u : Taken) → r ≡ OfEnd → Ready stand bytes r v s o d
+  -- of a stack
+  stack-end : (x : StackLine) (done : List Line) (conc' flow' : List ℕ) (d' : Done) (u : Taken) → Kept (Inside x done) v s o d → v .water ≡ false → EndOk v
       → EndTaken v s (periodStates (o .runs) (o .measured) (v .head .days)) (firstMissing (o .runs) (o .measured) (v .head .days)) (o .concentrations) (o .flows) d conc' flow' d' u
-      → Took stand bytes r u (inOpen (o .runs) (o .measured) (o .states) (o .flags) conc' flow') d'
-  unfolding taken takenInside judgeReadings viewOf
-  took-end stand r conc' flow' d' u q k e =
-      let ok = end-ok v (runsOf stand) (judged stand r OfEnd q k) in
-      took-other stand r OfEnd u _ d' q (e .faults) refl
-      (in-line stand v (k .kept .view) (ok .inside) (λ a. Kept a v s o d → Kept (taken a bytes OfEnd) (u .view) (u .sums) (inOpen (o .runs) (o .measured) (o .states) (o .flags) conc' flow') d')
-      (λ x done y.
+      → Kept (Between (OfStack x ∷ done)) (u .view) (u .sums) (inOpen (o .runs) (o .measured) (o .states) (o .flags) conc' flow') d'
+  unfolding viewOf
+  stack-end x done conc' flow' d' u y w ok e =
       let a : length (x .days) ≡ x .head .days = days-all x done (y .view) (ok .days-done) in
       let n : length (x .days) ≡ v .head .days = a ∙ sym (ap (λ (w : View). w .head .days) (y .view)) in
       let kr : take (v .head .days) (o .runs) ≡ runMasks (x .days) = ap (λ (i : ℕ). take i (o .runs)) (sym n) ∙ y .books .masks .runsKept in
       let km : take (v .head .days) (o .measured) ≡ measuredMasks (daysAfter x) = ap (λ (i : ℕ). take i (o .measured)) (sym n) ∙ y .books .masks .measuredKept in
-      kept-end x done v s o d y a (no-entry x done (y .view) ok) conc' flow' d' u
-      (subst₂ (λ (i : List ℕ) (j : ℕ). EndTaken v s i j (o .concentrations) (o .flows) d conc' flow' d' u) (states-kept (v .head .days) (o .runs) (o .measured) _ _ kr km) (first-kept (v .head .days) (o .runs) (o .measured) _ _ kr km) e)) (k .kept))
+      kept-end x done v s o d y a (no-entry x done (y .view) w ok) conc' flow' d' u
+      (subst₂ (λ (i : List ℕ) (j : ℕ). EndTaken v s i j (o .concentrations) (o .flows) d conc' flow' d' u) (states-kept (v .head .days) (o .runs) (o .measured) _ _ kr km) (first-kept (v .head .days) (o .runs) (o .measured) _ _ kr km) e)
+
+  -- of an outfall
+  outfall-end : (x : OutfallLine) (done : List Line) (conc' flow' : List ℕ) (d' : Done) (u : Taken) → Kept (InWater x done) v s o d → EndOk v
+      → WaterEndTaken v s (firstLacking (o .states) (v .head .days)) (o .concentrations) (o .flows) d d' u × (conc' ≡ o .concentrations) × (flow' ≡ o .flows)
+      → Kept (Between (OfOutfall x ∷ done)) (u .view) (u .sums) (inOpen (o .runs) (o .measured) (o .states) (o .flags) conc' flow') d'
+  unfolding viewOf asHead
+  outfall-end x done conc' flow' d' u y ok e =
+      let a : length (x .days) ≡ x .head .days = sym (ap (λ (w : View). w .days) (y .view)) ∙ ok .days-done ∙ ap (λ (w : View). w .head .days) (y .view) in
+      subst₂ (λ (c l : List ℕ). Kept (Between (OfOutfall x ∷ done)) (u .view) (u .sums) (inOpen (o .runs) (o .measured) (o .states) (o .flags) c l) d') (sym (e .1)) (sym (e .2))
+      (kept-water-end x done v s o d y a d' u (e .0))
+
+  pub took-end : (stand : Stand) (r : Record) (conc' flow' : List ℕ) (d' : Done) (u : Taken) → r ≡ OfEnd → Ready stand bytes r v s o d
+      → Closed v s (o .runs) (o .measured) (o .states) (o .concentrations) (o .flows) d conc' flow' d' u
+      → Took stand bytes r u (inOpen (o .runs) (o .measured) (o .states) (o .flags) conc' flow') d'
+  unfolding taken takenInside takenInWater judgeReadings
+  took-end stand r conc' flow' d' u q k e =
+      let ok = end-ok v (runsOf stand) (judged stand r OfEnd q k) in
+      took-other stand r OfEnd u _ d' q (closed-fine (ok .inside) e) refl
+      (in-either stand v (k .kept .view) (ok .inside) (λ a. Kept a v s o d → Kept (taken a bytes OfEnd) (u .view) (u .sums) (inOpen (o .runs) (o .measured) (o .states) (o .flags) conc' flow') d')
+      (λ x done w y. stack-end x done conc' flow' d' u y w ok (e .ofStack w)) (λ x done w y. outfall-end x done conc' flow' d' u y ok (e .ofOutfall w)) (k .kept))
+    where
+      closed-fine : (v .inside || v .water) ≡ true → Closed v s (o .runs) (o .measured) (o .states) (o .concentrations) (o .flows) d conc' flow' d' u → u .fault ≡ fine
+      closed-fine i e = by (v .water) refl
+        where
+          by : (b : Bool) → v .water ≡ b → u .fault ≡ fine
+          by true w = e .ofOutfall w .0 .faults
+          by false w = e .ofStack w .faults
 
   -- ---- what each asks before it is taken in
   pub days-lent : (stand : Stand) → Kept stand v s o d → v .days ≤ mostDays
   unfolding viewOf
   days-lent (Between done) k = omega (arith, ap (λ (w : View). w .days) (k .view))
   days-lent (Inside x done) k = omega (arith, ap (λ (w : View). w .days) (k .view), k .books .days, k .books .period)
+  days-lent (InWater x done) k = omega (arith, ap (λ (w : View). w .days) (k .view), k .books .days, k .books .period)
 
   pub ready-day : (stand : Stand) (r : Record) (m : Masks) → r ≡ OfDay m → Ready stand bytes r v s o d
       → DayReady bytes v m (o .states) (o .concentrations) (o .flows)
@@ -275,10 +317,11 @@ module _ (bytes : List ℕ) (v : View) (s : Sums) (o : Open) (d : Done) where
       let y = k .books .surveys in
       (omega (arith, y .counted, surveyed-most x, k .books .few), omega (arith, y .weighed, y .most, surveyed-most x, k .books .few))
 
-  ready-survey : (stand : Stand) (t : Survey) (count : ℕ) → count ≤ v .enforcement .count + v .plant .count → SurveyOk v t → Kept stand v s o d → SurveyReady t count v s (o .runs) (o .measured)
+  ready-survey : (stand : Stand) (t : Survey) (count : ℕ) → count ≤ v .enforcement .count + v .plant .count → SurveyOk (v .inside) (hoursOfDay * v .head .days) v t → Kept stand v s o d
+      → SurveyReady t count (foundBy (t .hour) (o .runs) (o .measured)) v s
   unfolding viewOf
   ready-survey stand t count l ok k =
-      in-line stand v (k .view) (ok .inside) (λ a. Kept a v s o d → SurveyReady t count v s (o .runs) (o .measured))
+      in-line stand v (k .view) (ok .inside) (λ a. Kept a v s o d → SurveyReady t count (foundBy (t .hour) (o .runs) (o .measured)) v s)
       (λ x done y.
       let f = survey-facts x done t (y .view) ok in
       let b = y .books in
@@ -286,16 +329,16 @@ module _ (bytes : List ℕ) (v : View) (s : Sums) (o : Open) (d : Done) where
       let n = found-kept (length (x .days)) (t .hour) (o .runs) (o .measured) (runMasks (daysAfter x)) (measuredMasks (daysAfter x)) (b .masks .runsKept ∙ sym (days-runs x)) (b .masks .measuredKept) i in
       record {
         hour = omega (arith, f .hour, b .period);
-        found = omega (arith, n, found-most t (daysAfter x) (omega (arith, i, days-length x)), ap (λ (w : View). w .missing) (y .view));
+        finds = omega (arith, n, found-most t (daysAfter x) (omega (arith, i, days-length x)), ap (λ (w : View). w .missing) (y .view));
         room = omega (arith, ok .room, l);
         surveyed = omega (arith, b .surveys .counted, surveyed-most x, f .room);
         weight = weights-most x done y .1;
       }) k
 
-  pub ready-enforcement : (stand : Stand) (r : Record) (t : Survey) → r ≡ OfEnforcement t → Ready stand bytes r v s o d → SurveyReady t (v .enforcement .count) v s (o .runs) (o .measured)
+  pub ready-enforcement : (stand : Stand) (r : Record) (t : Survey) → r ≡ OfEnforcement t → Ready stand bytes r v s o d → SurveyReady t (v .enforcement .count) (foundBy (t .hour) (o .runs) (o .measured)) v s
   ready-enforcement stand r t q k = ready-survey stand t (v .enforcement .count) (omega arith) (enforcement-ok v (runsOf stand) t (judged stand r (OfEnforcement t) q k) .1) (k .kept)
 
-  pub ready-plant : (stand : Stand) (r : Record) (t : Survey) → r ≡ OfPlant t → Ready stand bytes r v s o d → SurveyReady t (v .plant .count) v s (o .runs) (o .measured)
+  pub ready-plant : (stand : Stand) (r : Record) (t : Survey) → r ≡ OfPlant t → Ready stand bytes r v s o d → SurveyReady t (v .plant .count) (foundBy (t .hour) (o .runs) (o .measured)) v s
   ready-plant stand r t q k = ready-survey stand t (v .plant .count) (omega arith) (plant-ok v (runsOf stand) t (judged stand r (OfPlant t) q k)) (k .kept)
 
   pub ready-batch : (stand : Stand) (r : Record) (b : Batch) → r ≡ OfBatch b → Ready stand bytes r v s o d
@@ -305,12 +348,16 @@ module _ (bytes : List ℕ) (v : View) (s : Sums) (o : Open) (d : Done) where
       in-line stand v (k .kept .view) (ok .inside) (λ a. Kept a v s o d → (v .batches < mostBatches) × (b .kg + v .fuel ≤ mostFuel) × (b .ash ≤ mostAsh) × (s .ash ≤ mostFuel * mostAsh))
       (λ x done y. let m = y .books .fuel in (ok .room, omega (arith, ok .fuel-most), ok .ash-most, omega (arith, m .summed, m .range .ash, m .range .kg))) (k .kept)
 
-  pub ready-end : (stand : Stand) (r : Record) → r ≡ OfEnd → Ready stand bytes r v s o d → EndReady v s (o .runs) (o .measured) (o .states) (o .concentrations) (o .flows) (d .totals)
+  -- ---- records of an outfall
+  day-weights : (x : OutfallLine) (done : List Line) → Kept (InWater x done) v s o d → (s .surveyed ≤ mostSurveys) × (s .weight ≤ mostSurveys * mostAmount)
+  unfolding outfallSurveys
+  day-weights x done k =
+      let y = k .books .surveys in
+      (omega (arith, y .counted, days-surveyed-most x, k .books .few), omega (arith, y .weighed, y .most, days-surveyed-most x, k .books .few))
+
+  stack-ready : (x : StackLine) (done : List Line) → Kept (Inside x done) v s o d → EndOk v → EndReady v s (o .runs) (o .measured) (o .states) (o .concentrations) (o .flows) (d .totals)
   unfolding viewOf
-  ready-end stand r q k =
-      let ok = end-ok v (runsOf stand) (judged stand r OfEnd q k) in
-      in-line stand v (k .kept .view) (ok .inside) (λ a. Kept a v s o d → EndReady v s (o .runs) (o .measured) (o .states) (o .concentrations) (o .flows) (d .totals))
-      (λ x done z.
+  stack-ready x done z ok =
       let e = z .view in
       let y = z .books in
       let w = weights-most x done z in
@@ -332,7 +379,137 @@ module _ (bytes : List ℕ) (v : View) (s : Sums) (o : Open) (d : Done) where
         fuel = subst (λ (g : OnPaper). gramsIn g ≤ mostGrams) (sym f) (fuel-most (x .head) (x .batches) (y .fuel .range));
         pollutant = (omega (arith, p, y .pollutant .0), omega (arith, p, y .pollutant .1));
         totals = λ i. omega (arith, z .done .most i, z .lines);
+      }
+
+  outfall-ready : (x : OutfallLine) (done : List Line) → Kept (InWater x done) v s o d → v .water ≡ true → EndOk v → WaterEndReady v s (o .concentrations) (o .flows) (d .totals)
+  unfolding viewOf asHead outfallSurveys
+  outfall-ready x done z t ok =
+      let e = z .view in
+      let y = z .books in
+      let w = day-weights x done z in
+      let p : v .head .pollutant ≡ x .head .pollutant = ap (λ (u : View). u .head .pollutant) e in
+      record {
+        days = omega (arith, ap (λ (u : View). u .head .days) e, y .period);
+        concLong = z .long .concentrations;
+        flowLong = z .long .flows;
+        limits = record { concentrations = cells-most (y .concentrations); flows = cells-most (y .flows) };
+        some = λ m. subst (λ (i : ℕ). 0 < i) (sym (y .surveys .counted)) (outfall-surveyed x (daily-two (outfallMethod x) (subst (λ (i : ℕ). 0 < i) (daily-is x done e) (ok .left t)) (daily-most x) (λ q. m (daily-is x done e ∙ q))));
+        surveyed = w .0;
+        weight = w .1;
+        running = omega (arith, ap (λ (u : View). u .running) e, running-most x, y .days, y .period);
+        lines = omega (arith, ap (λ (u : View). u .lines) e, z .lines);
+        pollutant = (omega (arith, p, y .pollutant .0), omega (arith, p, y .pollutant .1));
+        totals = λ i. omega (arith, z .done .most i, z .lines);
+      }
+
+  pub ready-end : (stand : Stand) (r : Record) → r ≡ OfEnd → Ready stand bytes r v s o d → CloseReady v s (o .runs) (o .measured) (o .states) (o .concentrations) (o .flows) (d .totals)
+  ready-end stand r q k =
+      let ok = end-ok v (runsOf stand) (judged stand r OfEnd q k) in
+      in-either stand v (k .kept .view) (ok .inside) (λ a. Kept a v s o d → CloseReady v s (o .runs) (o .measured) (o .states) (o .concentrations) (o .flows) (d .totals))
+      (λ x done w y. record { ofStack = λ _. stack-ready x done y ok; ofOutfall = λ t. absurd (true≢false (sym t ∙ w)) })
+      (λ x done w y. record { ofStack = λ t. absurd (true≢false (sym w ∙ t)); ofOutfall = λ _. outfall-ready x done y w ok }) (k .kept)
+
+  pub record DayFacts (x : OutfallLine) (t : Survey) : Type 0 where
+    pub day : t .hour < x .head .days
+    pub all-days : length (x .days) ≡ x .head .days
+    pub room : outfallSurveys x < mostSurveys
+    pub pair : PairAccepted (t .pair)
+
+  day-survey-facts : (x : OutfallLine) (done : List Line) (t : Survey) → v ≡ viewOf (InWater x done) → SurveyOk (v .water) (v .head .days) v t → DayFacts x t
+  unfolding viewOf asHead outfallSurveys
+  day-survey-facts x done t e ok =
+      record {
+        day = omega (arith, ok .in-period, ap (λ (w : View). w .head .days) e);
+        all-days = sym (ap (λ (w : View). w .days) e) ∙ ok .days-done ∙ ap (λ (w : View). w .head .days) e;
+        room = omega (arith, ok .room, ap (λ (w : View). w .enforcement .count) e, ap (λ (w : View). w .plant .count) e, survey-count (x .enforcement), survey-count (x .plant));
+        pair = ok .pair;
+      }
+
+  ready-day-survey : (stand : Stand) (t : Survey) (count : ℕ) → count ≤ v .enforcement .count + v .plant .count → SurveyOk (v .water) (v .head .days) v t → Kept stand v s o d
+      → SurveyReady t count (lacksOn (o .states) (t .hour)) v s
+  unfolding viewOf
+  ready-day-survey stand t count l ok k =
+      in-water stand v (k .view) (ok .inside) (λ a. Kept a v s o d → SurveyReady t count (lacksOn (o .states) (t .hour)) v s)
+      (λ x done y.
+      let f = day-survey-facts x done t (y .view) ok in
+      let b = y .books in
+      record {
+        hour = omega (arith, f .day, b .period);
+        finds = omega (arith, found-within x t b (y .long) (f .all-days) (f .day), ap (λ (w : View). w .missing) (y .view));
+        room = omega (arith, ok .room, l);
+        surveyed = omega (arith, b .surveys .counted, days-surveyed-most x, f .room);
+        weight = day-weights x done y .1;
+      }) k
+
+  pub ready-water : (stand : Stand) (r : Record) (w : Water) → r ≡ OfWater w → Ready stand bytes r v s o d → WaterReady w v s (o .states) (o .concentrations) (o .flows)
+  unfolding viewOf asHead
+  ready-water stand r (OfOutfallHead h) q k =
+      between-lines stand v (k .kept .view) (outfall-ok v (runsOf stand) h (judged stand r (OfWater (OfOutfallHead h)) q k) .outside)
+      (λ a. Kept a v s o d → (s .used ≤ mostHours) × (length (o .concentrations) ≡ mostHours) × (length (o .flows) ≡ mostHours))
+      (λ done y. (y .books .usedMost, y .long .concentrations, y .long .flows)) (k .kept)
+  ready-water stand r (OfOutfallDay t) q k =
+      let ok = water-day-ok v (runsOf stand) t (judged stand r (OfWater (OfOutfallDay t)) q k) in
+      in-water stand v (k .kept .view) (ok .inside) (λ a. Kept a v s o d → WaterDayReady v t (o .concentrations) (o .flows))
+      (λ x done y.
+      let e = y .view in
+      let b = y .books in
+      let n : v .days < mostDays = omega (arith, ok .room, ap (λ (w : View). w .head .days) e, b .period) in
+      record {
+        day = omega (arith, ok .turn);
+        concLong = y .long .concentrations;
+        flowLong = y .long .flows;
+        days = n;
+        running = omega (arith, ap (λ (w : View). w .running) e, running-most x, b .days, b .period);
+        missing = omega (arith, ap (λ (w : View). w .missing) e, missing-most x, b .days, b .period);
       }) (k .kept)
+  ready-water stand r (OfOutfallEnforcement t) q k =
+      ready-day-survey stand t (v .enforcement .count) (omega arith) (day-enforcement-ok v (runsOf stand) t (judged stand r (OfWater (OfOutfallEnforcement t)) q k) .1) (k .kept)
+  ready-water stand r (OfOutfallPlant t) q k = ready-day-survey stand t (v .plant .count) (omega arith) (day-plant-ok v (runsOf stand) t (judged stand r (OfWater (OfOutfallPlant t)) q k)) (k .kept)
+
+  -- each as it is taken in
+  abbrev afterWater : List ℕ → List ℕ → List ℕ → List ℕ → List ℕ → Open
+  afterWater runs' states' flags' conc' flow' = inOpen runs' (o .measured) states' flags' conc' flow'
+
+  kept-by-water : (stand : Stand) (r : Record) (w : Water) (runs' states' flags' conc' flow' : List ℕ) (u : Taken) → r ≡ OfWater w → Ready stand bytes r v s o d
+      → WaterTaken w v s (o .runs) (o .states) (o .flags) (o .concentrations) (o .flows) runs' states' flags' conc' flow' u
+      → (u .fault ≡ fine) × Kept (taken stand bytes (OfWater w)) (u .view) (u .sums) (afterWater runs' states' flags' conc' flow') d
+  unfolding taken takenBetween takenInWater waterBetween waterInside viewOf asHead
+  kept-by-water stand r (OfOutfallHead h) runs' states' flags' conc' flow' u q k (e, er, es) =
+      let ok = outfall-ok v (runsOf stand) h (judged stand r (OfWater (OfOutfallHead h)) q k) in
+      (e .faults,
+      subst₂ (λ (a b : List ℕ). Kept (taken stand bytes (OfWater (OfOutfallHead h))) (u .view) (u .sums) (afterWater a b flags' conc' flow') d) (sym er) (sym es)
+      (between-lines stand v (k .kept .view) (ok .outside) (λ a. Kept a v s o d → Kept (taken a bytes (OfWater (OfOutfallHead h))) (u .view) (u .sums) (afterWater (o .runs) (o .states) flags' conc' flow') d)
+      (λ done y. kept-outfall done v s h o d flags' conc' flow' u y (ok .days-most) (omega (arith, ok .pollutant-least), ok .pollutant-most) (lines-left done v (y .view) (ok .room)) e) (k .kept)))
+  kept-by-water stand r (OfOutfallDay t) runs' states' flags' conc' flow' u q k (e, ef) =
+      let ok = water-day-ok v (runsOf stand) t (judged stand r (OfWater (OfOutfallDay t)) q k) in
+      (e .faults,
+      subst (λ (a : List ℕ). Kept (taken stand bytes (OfWater (OfOutfallDay t))) (u .view) (u .sums) (afterWater runs' states' a conc' flow') d) (sym ef)
+      (in-water stand v (k .kept .view) (ok .inside) (λ a. Kept a v s o d → Kept (taken a bytes (OfWater (OfOutfallDay t))) (u .view) (u .sums) (afterWater runs' states' (o .flags) conc' flow') d)
+      (λ x done y. kept-water-day x done v s t o d runs' states' conc' flow' u y (omega (arith, ok .room, ap (λ (w : View). w .days) (y .view), ap (λ (w : View). w .head .days) (y .view))) (ok .turn ∙ ap (λ (w : View). w .days) (y .view)) (ok .fields) e) (k .kept)))
+  kept-by-water stand r (OfOutfallEnforcement t) runs' states' flags' conc' flow' u q k (e, er) =
+      let ok = day-enforcement-ok v (runsOf stand) t (judged stand r (OfWater (OfOutfallEnforcement t)) q k) in
+      (e .faults,
+      subst (λ (a : List ℕ). Kept (taken stand bytes (OfWater (OfOutfallEnforcement t))) (u .view) (u .sums) (afterWater a states' flags' conc' flow') d) (sym er)
+      (in-water stand v (k .kept .view) (ok .1 .inside) (λ a. Kept a v s o d → Kept (taken a bytes (OfWater (OfOutfallEnforcement t))) (u .view) (u .sums) (afterWater (o .runs) states' flags' conc' flow') d)
+      (λ x done y.
+      let f = day-survey-facts x done t (y .view) (ok .1) in
+      kept-day-enforcement x done v s t o d y (f .day) (f .all-days) (f .room) (f .pair) states' flags' conc' flow' u
+      (empty-of (x .plant) (sym (survey-count (x .plant)) ∙ sym (ap (λ (w : View). w .plant .count) (y .view)) ∙ ok .0)) e) (k .kept)))
+  kept-by-water stand r (OfOutfallPlant t) runs' states' flags' conc' flow' u q k (e, er, ef) =
+      let ok = day-plant-ok v (runsOf stand) t (judged stand r (OfWater (OfOutfallPlant t)) q k) in
+      (e .faults,
+      subst₂ (λ (a b : List ℕ). Kept (taken stand bytes (OfWater (OfOutfallPlant t))) (u .view) (u .sums) (afterWater a states' b conc' flow') d) (sym er) (sym ef)
+      (in-water stand v (k .kept .view) (ok .inside) (λ a. Kept a v s o d → Kept (taken a bytes (OfWater (OfOutfallPlant t))) (u .view) (u .sums) (afterWater (o .runs) states' (o .flags) conc' flow') d)
+      (λ x done y.
+      let f = day-survey-facts x done t (y .view) ok in
+      kept-day-plant x done v s t o d y (f .day) (f .all-days) (f .room) (f .pair) states' conc' flow' u e) (k .kept)))
+
+  pub took-water : (stand : Stand) (r : Record) (w : Water) (runs' states' flags' conc' flow' : List ℕ) (u : Taken) → r ≡ OfWater w → Ready stand bytes r v s o d
+      → WaterTaken w v s (o .runs) (o .states) (o .flags) (o .concentrations) (o .flows) runs' states' flags' conc' flow' u → Took stand bytes r u (afterWater runs' states' flags' conc' flow') d
+  unfolding judgeReadings
+  took-water stand r w runs' states' flags' conc' flow' u q k e =
+      let b = kept-by-water stand r w runs' states' flags' conc' flow' u q k e in
+      took-other stand r (OfWater w) u _ d q (b .0) refl (b .1)
 
   pub took-none : (stand : Stand) (r : Record) → r ≡ Bad → Ready stand bytes r v s o d → ⊥
   took-none stand r q k = bad-refused v (runsOf stand) (judged stand r Bad q k)

@@ -27,11 +27,11 @@ unfolding surveysOf
 more-surveys s [] = refl
 more-surveys s (t ∷ ts) = ap (λ (n : ℕ). record { count = n; floor = s .hour + 1 }) (add-one (length (t ∷ ts)))
 
-pub view-start : openedView false 0 0 noHead ≡ viewOf (Between [])
+pub view-start : openedView false false 0 0 noHead ≡ viewOf (Between [])
 unfolding viewOf floorOf headOfLine surveysOf
 view-start = refl
 
-pub view-head : (done : List Line) (h : Head) → afterHead (viewOf (Between done)) h ≡ viewOf (Inside (begun h) done)
+pub view-head : (done : List Line) (h : Head) → afterHead (viewOf (Between done)) h false ≡ viewOf (Inside (begun h) done)
 unfolding viewOf begun floorOf headOfLine surveysOf surveyed besides daysAfter putSurveys running lacking fuel sumOf
 view-head done h = refl
 

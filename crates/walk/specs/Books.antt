@@ -12,11 +12,11 @@ use Rattle.rules.specs.declared.View.{View}
 use Rattle.rules.specs.Slots.{Slot, valid, missing, stopped}
 use Rattle.rules.specs.Hours.{runMasks, measuredMasks}
 use Rattle.rules.specs.Lines.{StackLine, hasSurvey, surveyed, daysAfter, hours, surveys as surveysIn}
-use Rattle.rules.specs.Outfalls.{Line, OfStack}
+use Rattle.rules.specs.Outfalls.{OutfallLine, surveyedDays, outfallDays, outfallSurveys, Line}
 use Rattle.rules.specs.Fill.{Values, zeroes}
 use Rattle.rules.specs.Grams.{valuesOf, amount, surveyValues, sulphurOf}
 use Rattle.rules.specs.Row.{rowsOf, totalsOf, concentrationCells, flowCells}
-use Rattle.rules.specs.Walk.{Stand, Between, Inside, viewOf}
+use Rattle.rules.specs.Walk.{Stand, Between, Inside, InWater, viewOf, statesOf}
 use Rattle.hours.specs.States.{periodStates}
 use Rattle.fuel.specs.Fuel.{ashOf, InRange}
 use Rattle.walk.specs.declared.books.Sums.{Sums}
@@ -77,9 +77,9 @@ pub record CellsKept (value : ℕ → ℕ) (most : ℕ) (cells : List ℕ) : Typ
   pub within : (h : ℕ) → value h ≤ most
 
 -- the surveys so far: a flag for each of the enforcement, and n and the sum of c x l of the distinct ones
-pub record SurveysKept (days : ℕ) (enforcement distinct : List Survey) (count weight : ℕ) (flags : List ℕ) : Type 0 where
+pub record SurveysKept (period : ℕ) (enforcement distinct : List Survey) (count weight : ℕ) (flags : List ℕ) : Type 0 where
   pub flagged : flags ≡ table (flagAt enforcement) mostHours
-  pub past : (h : ℕ) → hoursOfDay * days ≤ h → getD flags h 0 ≡ 0
+  pub past : (h : ℕ) → period ≤ h → getD flags h 0 ≡ 0
   pub counted : count ≡ length distinct
   pub weighed : weight ≡ sumOf (λ s. amount (surveyValues s)) distinct
   pub most : sumOf (λ s. amount (surveyValues s)) distinct ≤ length distinct * mostAmount
@@ -95,7 +95,7 @@ pub record LineBooks (x : StackLine) (s : Sums) (o : Open) : Type 0 where
   pub masks : MasksKept x (o .runs) (o .measured) (o .states)
   pub concentrations : CellsKept (λ h. valuesAt (hours x) h .c) mostConcentration (o .concentrations)
   pub flows : CellsKept (λ h. valuesAt (hours x) h .l) mostFlow (o .flows)
-  pub surveys : SurveysKept (x .head .days) (x .enforcement) (surveyed x) (s .surveyed) (s .weight) (o .flags)
+  pub surveys : SurveysKept (hoursOfDay * x .head .days) (x .enforcement) (surveyed x) (s .surveyed) (s .weight) (o .flags)
   pub fuel : FuelKept (x .batches) (s .sulphur) (s .ash)
   pub used : s .used ≡ hoursOfDay * x .head .days
   pub pollutant : (1 ≤ x .head .pollutant) × (x .head .pollutant ≤ totalCells)
@@ -103,6 +103,26 @@ pub record LineBooks (x : StackLine) (s : Sums) (o : Open) : Type 0 where
   pub days : length (x .days) ≤ x .head .days
   pub early : length (x .days) < x .head .days → (x .enforcement ≡ []) × (x .plant ≡ [])
   pub few : surveysIn x ≤ mostSurveys
+
+-- the state of a day after its surveys
+unfoldable pub stateOfSlot : Slot Pair → ℕ
+stateOfSlot (valid p) = 2
+stateOfSlot missing = 1
+stateOfSlot stopped = 0
+
+-- what the code holds of an open line of an outfall: the states of its days, before surveys for the judge and after them; one cell a day
+pub record WaterBooks (x : OutfallLine) (s : Sums) (o : Open) : Type 0 where
+  pub runs : take (length (x .days)) (o .runs) ≡ statesOf (x .days)
+  pub states : (d : ℕ) → d < length (x .days) → getD (o .states) d 0 ≡ stateOfSlot (getD (outfallDays x) d stopped)
+  pub concentrations : CellsKept (λ d. valuesAt (outfallDays x) d .c) mostConcentration (o .concentrations)
+  pub flows : CellsKept (λ d. valuesAt (outfallDays x) d .l) mostFlow (o .flows)
+  pub surveys : SurveysKept (x .head .days) (x .enforcement) (surveyedDays x) (s .surveyed) (s .weight) (o .flags)
+  pub used : s .used ≡ x .head .days
+  pub pollutant : (1 ≤ x .head .pollutant) × (x .head .pollutant ≤ totalCells)
+  pub period : x .head .days ≤ mostDays
+  pub days : length (x .days) ≤ x .head .days
+  pub early : length (x .days) < x .head .days → (x .enforcement ≡ []) × (x .plant ≡ [])
+  pub few : outfallSurveys x ≤ mostSurveys
 
 -- what the cells hold between two lines: past those that the newest line used they are 0
 pub record CellsBetween (lines : List Line) (used : ℕ) (o : Open) : Type 0 where
@@ -117,16 +137,19 @@ pub record CellsBetween (lines : List Line) (used : ℕ) (o : Open) : Type 0 whe
 abbrev pub OpenBooks : Stand → Sums → Open → Type 0
 OpenBooks (Between done) s o = CellsBetween done (s .used) o
 OpenBooks (Inside x done) s o = LineBooks x s o
+OpenBooks (InWater x done) s o = WaterBooks x s o
 
 -- the lines that are done
 abbrev pub linesDone : Stand → List Line
 linesDone (Between done) = done
 linesDone (Inside x done) = done
+linesDone (InWater x done) = done
 
 -- the lines that are begun
 abbrev pub begunOf : Stand → ℕ
 begunOf (Between done) = length done
 begunOf (Inside x done) = length done + 1
+begunOf (InWater x done) = length done + 1
 
 -- the rows and the totals of the lines that are done, which no record of an open line moves
 pub record DoneKept (lines : List Line) (d : Done) : Type 0 where

@@ -1,5 +1,6 @@
 -- What the functions that take a record in promise each other.
 use Prim.Native.Nat.{ℕ, _+_, _*_, _<_, _≤_}
+use mathlib.Core.Bool.{Bool, true, false}
 use mathlib.Core.List.{List}
 use mathlib.Core.Path.{_≡_}
 use lib.ListN.{length, take, getD, set}
@@ -10,18 +11,27 @@ use Rattle.rules.specs.declared.Masks.{Masks}
 use Rattle.rules.specs.declared.Survey.{Survey}
 use Rattle.rules.specs.declared.Batch.{Batch}
 use Rattle.rules.specs.declared.View.{View}
+use Rattle.rules.specs.declared.Pair.{Pair}
+use Rattle.rules.specs.declared.Outfall.{Outfall}
+use Rattle.rules.specs.declared.WaterDay.{WaterDay}
+use Rattle.rules.specs.declared.Water.{Water}
+use Rattle.rules.specs.declared.Water.the-variants.{OfOutfallHead, OfOutfallDay, OfOutfallEnforcement, OfOutfallPlant}
+use Rattle.rules.specs.Outfalls.{asHead}
+use Rattle.rules.specs.Hours.{firstMissing}
+use Rattle.reading.specs.Reading.{reading, concentrationOf, flowOf, flaggedOf}
 use Rattle.rules.specs.Records.{dayOf}
 use Rattle.hours.specs.States.{periodStates}
+use Rattle.line.specs.Days.{lacksOn, firstLacking, DayPut, DayPlantPut}
 use Rattle.hours.specs.Marks.{foundBy}
 use Rattle.line.specs.declared.surveyed.Weighed.{Weighed}
 use Rattle.line.specs.Put.{Tables, beats, SurveyPut, PlantPut}
 use Rattle.line.specs.Line.{rowIn}
-use Rattle.rules.specs.Judge.{fine, judgeHours, lineMethod}
+use Rattle.rules.specs.Judge.{fine, judgeHours, lineMethod, dailyMethod}
 use Rattle.day.specs.Day.{concentrationAt, flowAt, hourState}
 use Rattle.walk.specs.declared.books.Sums.{Sums}
 use Rattle.walk.specs.declared.take.Taken.{Taken}
-use Rattle.walk.specs.Views.{afterHead, afterDay, afterEnforcement, afterPlant, afterBatch, afterEnd, openedSums, withSurvey, withFuel}
-use Rattle.walk.specs.Closing.{gramsIn, Limits, LineGrams, withGrams}
+use Rattle.walk.specs.Views.{afterHead, afterDay, afterEnforcement, afterPlant, afterBatch, afterEnd, afterWaterDay, openedSums, withSurvey, withFuel}
+use Rattle.walk.specs.Closing.{gramsIn, dailyGrams, Limits, LineGrams, withGrams}
 use Rattle.fuel.specs.Fuel.{fuelFigure}
 use Rattle.walk.specs.Books.{putFrom, Done}
 
@@ -36,19 +46,19 @@ pub record DayReady (bytes : List ℕ) (v : View) (m : Masks) (states conc flow 
   pub missing : v .missing ≤ mostHours
   pub whole : 205 ≤ length bytes
 
--- what a survey asks, of whose kind there are so many
-pub record SurveyReady (t : Survey) (count : ℕ) (v : View) (s : Sums) (runs measured : List ℕ) : Type 0 where
+-- what a survey asks, of whose kind there are so many, and which finds so many missing hours or days
+pub record SurveyReady (t : Survey) (count found : ℕ) (v : View) (s : Sums) : Type 0 where
   pub hour : t .hour < mostHours
-  pub found : foundBy (t .hour) runs measured ≤ v .missing
+  pub finds : found ≤ v .missing
   pub room : count < mostSurveys
   pub surveyed : s .surveyed < mostSurveys
   pub weight : s .weight ≤ mostSurveys * mostAmount
 
 -- a head: cells and flags are 0
-pub record HeadTaken (v : View) (s : Sums) (h : Head) (flags conc flow flags' conc' flow' : List ℕ) (r : Taken) : Type 0 where
+pub record HeadTaken (v : View) (s : Sums) (h : Head) (water : Bool) (flags conc flow flags' conc' flow' : List ℕ) (r : Taken) : Type 0 where
   pub faults : r .fault ≡ fine
-  pub view : r .view ≡ afterHead v h
-  pub sums : r .sums ≡ openedSums h
+  pub view : r .view ≡ afterHead v h water
+  pub sums : r .sums ≡ openedSums h water
   pub flagsNow : flags' ≡ over (λ k. 0) (s .used) flags
   pub concNow : conc' ≡ over (λ k. 0) (s .used) conc
   pub flowNow : flow' ≡ over (λ k. 0) (s .used) flow
@@ -114,3 +124,98 @@ pub record EndTaken (v : View) (s : Sums) (states : List ℕ) (first : ℕ) (con
   pub sums : r .sums ≡ s
   pub rowsNow : d' .rows ≡ putFrom (λ k. getD (rowIn v (lineMethod v) grams first) k 0) rowCells (rowCells * v .lines) (d .rows)
   pub totalsNow : d' .totals ≡ withGrams (d .totals) (v .head .pollutant) grams
+
+-- ---- of an outfall: what a day asks
+pub record WaterDayReady (v : View) (d : WaterDay) (conc flow : List ℕ) : Type 0 where
+  pub day : d .day < mostDays
+  pub concLong : length conc ≡ mostHours
+  pub flowLong : length flow ≡ mostHours
+  pub days : v .days < mostDays
+  pub running : v .running ≤ mostHours
+  pub missing : v .missing ≤ mostHours
+
+-- the values of a pair, 0 for a reading that is refused
+abbrev pub pairC : Pair → ℕ
+pairC p = flaggedOf (concentrationOf (reading (p .concentration))) .value
+
+abbrev pub pairL : Pair → ℕ
+pairL p = flaggedOf (flowOf (reading (p .flow))) .value
+
+-- a day: its state and its values
+pub record WaterDayTaken (v : View) (s : Sums) (d : WaterDay) (runs states conc flow runs' states' conc' flow' : List ℕ) (r : Taken) : Type 0 where
+  pub faults : r .fault ≡ fine
+  pub view : r .view ≡ afterWaterDay v (d .state)
+  pub sums : r .sums ≡ s
+  pub runsNow : runs' ≡ set runs (d .day) (d .state)
+  pub statesNow : states' ≡ set states (d .day) (d .state)
+  pub concNow : conc' ≡ set conc (d .day) (pairC (d .pair))
+  pub flowNow : flow' ≡ set flow (d .day) (pairL (d .pair))
+
+-- an enforcement survey of a day
+pub record DayEnforcementTaken (v : View) (s : Sums) (t : Survey) (states flags conc flow states' flags' conc' flow' : List ℕ) (r : Taken) : Type 0 where
+  pub weighed : Weighed
+  pub put : DayPut t states conc flow states' conc' flow' weighed
+  pub faults : r .fault ≡ fine
+  pub view : r .view ≡ afterEnforcement v (t .hour) (weighed .found)
+  pub sums : r .sums ≡ withSurvey s weighed
+  pub flagsNow : flags' ≡ set flags (t .hour) 1
+
+-- a plant survey of a day
+pub record DayPlantTaken (v : View) (s : Sums) (t : Survey) (states flags conc flow states' conc' flow' : List ℕ) (r : Taken) : Type 0 where
+  pub weighed : Weighed
+  pub put : DayPlantPut t (beats flags (t .hour)) states conc flow states' conc' flow' weighed
+  pub faults : r .fault ≡ fine
+  pub view : r .view ≡ afterPlant v (t .hour) (weighed .found)
+  pub sums : r .sums ≡ withSurvey s weighed
+
+-- what closing a line of an outfall asks
+pub record WaterEndReady (v : View) (s : Sums) (conc flow soFar : List ℕ) : Type 0 where
+  pub days : v .head .days ≤ mostDays
+  pub concLong : length conc ≡ mostHours
+  pub flowLong : length flow ≡ mostHours
+  pub limits : Limits conc flow
+  pub some : (dailyMethod v ≡ 1 → ⊥) → 0 < s .surveyed
+  pub surveyed : s .surveyed ≤ mostSurveys
+  pub weight : s .weight ≤ mostSurveys * mostAmount
+  pub running : v .running ≤ mostDays
+  pub lines : v .lines < mostLines
+  pub pollutant : (1 ≤ v .head .pollutant) × (v .head .pollutant ≤ totalCells)
+  pub totals : (i : ℕ) → getD soFar i 0 ≤ mostLines * mostGrams
+
+-- its end: the grams, the row and the totals; no cell moves
+pub record WaterEndTaken (v : View) (s : Sums) (first : ℕ) (conc flow : List ℕ) (d d' : Done) (r : Taken) : Type 0 where
+  pub grams : ℕ
+  pub small : grams ≤ mostGrams
+  pub figure : grams ≡ dailyGrams (dailyMethod v) v s conc flow
+  pub faults : r .fault ≡ fine
+  pub view : r .view ≡ afterEnd v
+  pub sums : r .sums ≡ s
+  pub rowsNow : d' .rows ≡ putFrom (λ k. getD (rowIn v (dailyMethod v) grams first) k 0) rowCells (rowCells * v .lines) (d .rows)
+  pub totalsNow : d' .totals ≡ withGrams (d .totals) (v .head .pollutant) grams
+
+-- the end of a line of either world
+pub record CloseReady (v : View) (s : Sums) (runs measured states conc flow soFar : List ℕ) : Type 0 where
+  pub ofStack : v .water ≡ false → EndReady v s runs measured states conc flow soFar
+  pub ofOutfall : v .water ≡ true → WaterEndReady v s conc flow soFar
+
+pub record Closed (v : View) (s : Sums) (runs measured states conc flow : List ℕ) (d : Done) (conc' flow' : List ℕ) (d' : Done) (r : Taken) : Type 0 where
+  pub ofStack : v .water ≡ false → EndTaken v s (periodStates runs measured (v .head .days)) (firstMissing runs measured (v .head .days)) conc flow d conc' flow' d' r
+  pub ofOutfall : v .water ≡ true → WaterEndTaken v s (firstLacking states (v .head .days)) conc flow d d' r × (conc' ≡ conc) × (flow' ≡ flow)
+
+-- what a record of an outfall asks, by its kind
+abbrev pub WaterReady : Water → View → Sums → List ℕ → List ℕ → List ℕ → Type 0
+WaterReady (OfOutfallHead o) v s states conc flow = (s .used ≤ mostHours) × (length conc ≡ mostHours) × (length flow ≡ mostHours)
+WaterReady (OfOutfallDay d) v s states conc flow = WaterDayReady v d conc flow
+WaterReady (OfOutfallEnforcement t) v s states conc flow = SurveyReady t (v .enforcement .count) (lacksOn states (t .hour)) v s
+WaterReady (OfOutfallPlant t) v s states conc flow = SurveyReady t (v .plant .count) (lacksOn states (t .hour)) v s
+
+-- and what is then taken in
+abbrev pub WaterTaken : Water → View → Sums → List ℕ → List ℕ → List ℕ → List ℕ → List ℕ → List ℕ → List ℕ → List ℕ → List ℕ → List ℕ → Taken → Type 0
+WaterTaken (OfOutfallHead o) v s runs states flags conc flow runs' states' flags' conc' flow' r =
+    HeadTaken v s (asHead o) true flags conc flow flags' conc' flow' r × (runs' ≡ runs) × (states' ≡ states)
+WaterTaken (OfOutfallDay d) v s runs states flags conc flow runs' states' flags' conc' flow' r =
+    WaterDayTaken v s d runs states conc flow runs' states' conc' flow' r × (flags' ≡ flags)
+WaterTaken (OfOutfallEnforcement t) v s runs states flags conc flow runs' states' flags' conc' flow' r =
+    DayEnforcementTaken v s t states flags conc flow states' flags' conc' flow' r × (runs' ≡ runs)
+WaterTaken (OfOutfallPlant t) v s runs states flags conc flow runs' states' flags' conc' flow' r =
+    DayPlantTaken v s t states flags conc flow states' conc' flow' r × (runs' ≡ runs) × (flags' ≡ flags)

@@ -1,6 +1,6 @@
 -- The view and the sums after each kind of record that is not refused.
 use Prim.Native.Nat.{ℕ, _+_, _-_, _*_, max}
-use mathlib.Core.Bool.{Bool, true, false, not}
+use mathlib.Core.Bool.{Bool, false, not, _||_}
 use lib.Dec.{eqb}
 use Rattle.law.specs.Numbers.{hoursOfDay}
 use Rattle.law.specs.Words.{need, pick}
@@ -23,10 +23,11 @@ abbrev pub noSurveys : Surveys
 noSurveys = record { count = 0; floor = 0 }
 
 -- a view with nothing taken in yet but a head
-abbrev pub openedView : Bool → ℕ → ℕ → Head → View
-openedView inside lines floor head =
+abbrev pub openedView : Bool → Bool → ℕ → ℕ → Head → View
+openedView inside water lines floor head =
     record {
       inside = inside;
+      water = water;
       lines = lines;
       floor = floor;
       head = head;
@@ -39,14 +40,16 @@ openedView inside lines floor head =
       fuel = 0;
     }
 
-abbrev pub afterHead : View → Head → View
-afterHead v h = openedView true (v .lines) (key h + 1) h
+-- a line of a stack is opened, or one of an outfall
+abbrev pub afterHead : View → Head → Bool → View
+afterHead v h water = openedView (not water) water (v .lines) (key h + 1) h
 
 -- the view of the open line with what a record of it moves
 abbrev pub movedView : View → ℕ → ℕ → ℕ → Surveys → Surveys → ℕ → ℕ → View
 movedView v days running missing enforcement plant batches fuel =
     record {
       inside = v .inside;
+      water = v .water;
       lines = v .lines;
       floor = v .floor;
       head = v .head;
@@ -63,6 +66,17 @@ abbrev pub afterDay : View → Masks → View
 afterDay v m =
     movedView v (v .days + 1) (runningOf (m .run) + v .running) (missingOf (m .run) (m .measured) + v .missing) (v .enforcement) (v .plant) (v .batches) (v .fuel)
 
+-- 1 for a day of an outfall that runs, 1 for one that runs without data, by its state
+abbrev pub ranBy : ℕ → ℕ
+ranBy state = pick (eqb state 0) 0 1
+
+abbrev pub lacksBy : ℕ → ℕ
+lacksBy state = pick (eqb state 1) 1 0
+
+abbrev pub afterWaterDay : View → ℕ → View
+afterWaterDay v state =
+    movedView v (v .days + 1) (ranBy state + v .running) (lacksBy state + v .missing) (v .enforcement) (v .plant) (v .batches) (v .fuel)
+
 abbrev pub oneMore : Surveys → ℕ → Surveys
 oneMore s hour = record { count = s .count + 1; floor = hour + 1 }
 
@@ -77,15 +91,15 @@ abbrev pub afterBatch : View → ℕ → View
 afterBatch v kg = movedView v (v .days) (v .running) (v .missing) (v .enforcement) (v .plant) (v .batches + 1) (kg + v .fuel)
 
 abbrev pub afterEnd : View → View
-afterEnd v = openedView false (v .lines + 1) (v .floor) noHead
+afterEnd v = openedView false false (v .lines + 1) (v .floor) noHead
 
 -- no sums yet
 abbrev pub noSums : Sums
 noSums = record { surveyed = 0; weight = 0; sulphur = 0; ash = 0; used = 0 }
 
 -- the sums of a line that is opened: its period's cells will be used
-abbrev pub openedSums : Head → Sums
-openedSums h = record { surveyed = 0; weight = 0; sulphur = 0; ash = 0; used = hoursOfDay * h .days }
+abbrev pub openedSums : Head → Bool → Sums
+openedSums h water = record { surveyed = 0; weight = 0; sulphur = 0; ash = 0; used = pick water (h .days) (hoursOfDay * h .days) }
 
 -- what a survey adds
 abbrev pub withSurvey : Sums → Weighed → Sums
@@ -97,7 +111,7 @@ withFuel s b = record { surveyed = s .surveyed; weight = s .weight; sulphur = ma
 
 -- nothing is read yet
 abbrev pub atStart : Progress
-atStart = record { fault = fine; at = 0; view = openedView false 0 0 noHead; sums = noSums }
+atStart = record { fault = fine; at = 0; view = openedView false false 0 0 noHead; sums = noSums }
 
 -- after a record: the place after it; or, where it is refused, its fault at the file's place and nothing more to read
 abbrev pub movedOn : Taken → ℕ → ℕ → ℕ → Progress
@@ -106,4 +120,4 @@ movedOn t at next end =
 
 -- what the walk hands back: 2 where a file that is not refused ends inside a line
 abbrev pub foundOf : Progress → ℕ → Tally
-foundOf p end = record { fault = first (p .fault) (need (refuse 2 end) (not (p .view .inside)) fine); lines = p .view .lines }
+foundOf p end = record { fault = first (p .fault) (need (refuse 2 end) (not (p .view .inside || p .view .water)) fine); lines = p .view .lines }

@@ -4,6 +4,7 @@ mod close; // close.rt
 mod put; // put.rt
 mod turns; // turns.rt
 mod take; // take.rt
+mod water; // water.rt
 
 use crate::turns::walk_records;
 use rules::Answer;

@@ -137,7 +137,7 @@ fn found(p: Progress, end: usize) -> Tally
             lines: v.lines,
         };
     }
-    if v.inside {
+    if v.inside | v.water {
         return Tally {
             fault: Fault {
                 number: 2,

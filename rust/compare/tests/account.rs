@@ -9,7 +9,7 @@ use inputs::{Census, Rng, Size};
 const SEED: u64 = 0x0d0a_29e2_0001;
 /// Two runs of the program side by side, each with files from a seed of its own.
 const PARTS: [u64; 2] = [0, 0x1000];
-const INPUTS_OF_A_PART: usize = 60_000;
+const INPUTS_OF_A_PART: usize = 90_000;
 const LEAST: u64 = 100;
 
 #[test]
@@ -34,13 +34,15 @@ fn agrees_on_generated_files() {
     }
 }
 
-/// Every number of row cells up to 350, for files of few and of many lines.
+/// Every number of row cells up to 350, for files of few and of many lines, of stacks and with outfalls.
 #[test]
 fn agrees_on_every_length_of_rows() {
     let mut rng = Rng::new(SEED + 1);
-    let files = [Size::Short, Size::ManyLines].map(|size| inputs::wire::file(&inputs::sound_lines(size, &mut rng)));
+    let sizes = [Size::Short, Size::ManyLines];
+    let stacks = sizes.map(|size| inputs::wire::file(&inputs::sound_lines(size, &mut rng)));
+    let outfalls = sizes.map(|size| inputs::wire::file(&inputs::sound_lines_with_outfalls(size, &mut rng)));
     let of_file = |file: Vec<u8>| (0..=350).map(move |rows| AccountCall::of_file(file.clone(), rows, !rows as u32));
-    let census = agreed(compare_accounts(&calls(), files.into_iter().flat_map(of_file)));
+    let census = agreed(compare_accounts(&calls(), stacks.into_iter().chain(outfalls).flat_map(of_file)));
     assert!(census.numbers[0] > 0 && census.numbers[8] > 0);
 }
 
@@ -48,11 +50,12 @@ fn agrees_on_every_length_of_rows() {
 #[test]
 fn agrees_on_every_cut() {
     let mut rng = Rng::new(SEED + 2);
-    let files = [(); 4].map(|()| inputs::wire::file(&inputs::sound_lines(Size::Short, &mut rng)));
+    let stacks = [(); 4].map(|()| inputs::wire::file(&inputs::sound_lines(Size::Short, &mut rng)));
+    let outfalls = [(); 4].map(|()| inputs::wire::file(&inputs::sound_lines_with_outfalls(Size::Short, &mut rng)));
     let cuts = |file: Vec<u8>| {
         (0..=file.len()).map(move |length| AccountCall::of_file(file[..length].to_vec(), 21, length as u32))
     };
-    let census = agreed(compare_accounts(&calls(), files.into_iter().flat_map(cuts)));
+    let census = agreed(compare_accounts(&calls(), stacks.into_iter().chain(outfalls).flat_map(cuts)));
     assert!(census.numbers[1] > 0 && census.numbers[2] > 0);
 }
 

@@ -52,8 +52,8 @@ fn fails_on_a_changed_account() {
     let (rows, work) = (64, 64 + 8 * 21);
     let cells = [0, 2_207, 2_208, 2_210].map(|hour| work + 4 * hour);
     let flows = cells.map(|byte| byte + 4 * 2_211);
-    let bytes =
-        [0, 8, 16, 24, 32, 40, 48, 56, rows, rows + 48, rows + 56, work - 1].into_iter().chain(cells).chain(flows);
+    let answer = (0..rows).step_by(8);
+    let bytes = answer.chain([rows, rows + 48, rows + 56, work - 1]).chain(cells).chain(flows);
     for byte in bytes {
         let call = byte % CALLS;
         let why = accounts(&flip(call, byte)).expect_err("a changed byte is found");
@@ -94,12 +94,12 @@ fn says_how_to_get_the_program() {
     assert_eq!(why, "There is no target/bin/calls to compare: run `rt check calls` in the repository root.");
 }
 
-/// The header has the version of the packages, and the numbers of document 01 in their order.
+/// The header has the version of the packages, and the numbers of document 01 and its requests in their order.
 #[test]
 fn has_a_header_of_this_version() {
     assert!(HEADER.contains(&format!("#define DOARPEZWIM_VERSION \"{}\"", env!("CARGO_PKG_VERSION"))));
     let (_, refusals) = HEADER.split_once("enum doarpezwim_refusal {").expect("the header has the numbers");
-    let given = (0..=17).filter(|&number| number != 3);
+    let given = (0..=18).filter(|&number| number != 3);
     let mut places = given.map(|number| refusals.find(&format!(" = {number},")).expect("each number is named"));
     assert!(places.by_ref().is_sorted());
 }

@@ -46,7 +46,7 @@ fn head_fields(line: &mut Line, rng: &mut Rng) {
 pub fn spoil_head(head: &mut Head, rng: &mut Rng) {
     for _ in 0..rng.pick(&[1, 2, 2, 3]) {
         match rng.below(7) {
-            0 => head.pollutant = wrong_code(3, rng),
+            0 => head.pollutant = wrong_pollutant(rng),
             1 => head.required = rng.between(2, 255) as u8,
             2 => head.furnace = wrong_code(4, rng),
             3 => head.coal = wrong_code(7, rng),
@@ -55,6 +55,12 @@ pub fn spoil_head(head: &mut Head, rng: &mut Rng) {
             _ => head.days = wrong_code(92, rng),
         }
     }
+}
+
+/// One of water, or of nothing.
+fn wrong_pollutant(rng: &mut Rng) -> u8 {
+    let wrong = wrong_code(5, rng);
+    rng.pick(&[4, 5, wrong, wrong])
 }
 
 /// 0, or over `most`, and as often as not by one.

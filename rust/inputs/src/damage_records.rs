@@ -10,7 +10,7 @@ use crate::sound_surveys::survey;
 use crate::wire::{Batch, Day, Head, Record, Survey};
 
 /// One type for all faults, although not each of them needs a whole `Vec`.
-type Fault = fn(&mut Vec<Record>, &mut Rng);
+pub type Fault = fn(&mut Vec<Record>, &mut Rng);
 
 pub const FAULTS: [Fault; 16] = [
     wrong_length,
@@ -31,8 +31,30 @@ pub const FAULTS: [Fault; 16] = [
     batch_field,
 ];
 
+/// Those that any record can have, whatever its kind.
+pub const FORM_FAULTS: [Fault; 10] = [
+    wrong_length,
+    wrong_kind,
+    resized,
+    swapped,
+    doubled,
+    dropped,
+    early_end,
+    other_office,
+    survey_hour,
+    survey_reading,
+];
+
+/// Those that leave a record that is none.
+pub const NO_FORM: [Fault; 3] = [wrong_length, wrong_kind, wrong_kind];
+
+/// Puts a record in anywhere.
+pub fn insert(records: &mut Vec<Record>, record: Record, rng: &mut Rng) {
+    records.insert(rng.below(records.len() + 1), record);
+}
+
 /// The place of a record that `wanted` accepts.
-fn any(records: &[Record], rng: &mut Rng, wanted: fn(&Record) -> bool) -> Option<usize> {
+pub fn any(records: &[Record], rng: &mut Rng, wanted: fn(&Record) -> bool) -> Option<usize> {
     let places: Vec<usize> = (0..records.len()).filter(|&place| wanted(&records[place])).collect();
     (!places.is_empty()).then(|| rng.pick(&places))
 }
@@ -48,8 +70,17 @@ fn any_day<'a>(records: &'a mut [Record], rng: &mut Rng) -> Option<&'a mut Day> 
 }
 
 fn any_survey<'a>(records: &'a mut [Record], rng: &mut Rng) -> Option<&'a mut Survey> {
-    let place = any(records, rng, |record| matches!(record, Record::Enforcement(_) | Record::Plant(_)))?;
-    if let Record::Enforcement(survey) | Record::Plant(survey) = &mut records[place] { Some(survey) } else { None }
+    let place = any(records, rng, is_survey)?;
+    match &mut records[place] {
+        Record::Enforcement(survey) | Record::Plant(survey) => Some(survey),
+        Record::WaterEnforcement(survey) | Record::WaterPlant(survey) => Some(survey),
+        _ => None,
+    }
+}
+
+fn is_survey(record: &Record) -> bool {
+    use Record::*;
+    matches!(record, Enforcement(_) | Plant(_) | WaterEnforcement(_) | WaterPlant(_))
 }
 
 fn any_batch<'a>(records: &'a mut [Record], rng: &mut Rng) -> Option<&'a mut Batch> {
@@ -74,7 +105,7 @@ fn wrong_length(records: &mut Vec<Record>, rng: &mut Rng) {
     rewrite(records, rng, |bytes, rng| {
         let length = bytes.len() as u16 - 2;
         let any = rng.word() as u16;
-        let length = rng.pick(&[0, 1, 2, 12, 14, 203, length - 1, length + 1, u16::MAX, any]);
+        let length = rng.pick(&[0, 1, 2, 6, 12, 14, 203, length - 1, length + 1, u16::MAX, any]);
         bytes[..2].copy_from_slice(&length.to_le_bytes());
     });
 }
@@ -83,7 +114,7 @@ fn wrong_kind(records: &mut Vec<Record>, rng: &mut Rng) {
     rewrite(records, rng, |bytes, rng| {
         let kind = u16::from(bytes[2]);
         let any = rng.word() as u16;
-        let kind = rng.pick(&[0, 1, 2, 3, 4, 5, 6, 7, kind | 0x100, any]);
+        let kind = rng.pick(&[0, 1, 2, 3, 4, 5, 6, 7, 8, 9, 10, 11, 12, 13, kind | 0x100, any]);
         bytes[2..4].copy_from_slice(&kind.to_le_bytes());
     });
 }
@@ -120,17 +151,17 @@ fn dropped(records: &mut Vec<Record>, rng: &mut Rng) {
 }
 
 fn early_end(records: &mut Vec<Record>, rng: &mut Rng) {
-    records.insert(rng.below(records.len() + 1), Record::End);
+    insert(records, Record::End, rng);
 }
 
 /// A survey that changes its office where it stands: the two kinds have one length.
 fn other_office(records: &mut Vec<Record>, rng: &mut Rng) {
-    let Some(place) = any(records, rng, |record| matches!(record, Record::Enforcement(_) | Record::Plant(_))) else {
-        return;
-    };
+    let Some(place) = any(records, rng, is_survey) else { return };
     match records[place] {
         Record::Enforcement(survey) => records[place] = Record::Plant(survey),
         Record::Plant(survey) => records[place] = Record::Enforcement(survey),
+        Record::WaterEnforcement(survey) => records[place] = Record::WaterPlant(survey),
+        Record::WaterPlant(survey) => records[place] = Record::WaterEnforcement(survey),
         _ => {}
     }
 }
@@ -140,7 +171,7 @@ fn head_field(records: &mut Vec<Record>, rng: &mut Rng) {
     let byte = rng.word() as u8;
     match rng.below(8) {
         0 => head.stack = rng.word() as u16,
-        1 => head.pollutant = rng.pick(&[0, 4, byte]),
+        1 => head.pollutant = rng.pick(&[0, 4, 5, byte]),
         2 => head.required = rng.pick(&[2, 255, byte]),
         3 => head.furnace = rng.pick(&[0, 5, byte]),
         4 => head.coal = rng.pick(&[0, 8, byte]),
@@ -219,7 +250,7 @@ pub fn wrong_and_misplaced(records: &mut Vec<Record>, rng: &mut Rng) {
         _ => Some(wrong_batch(rng)),
     };
     if let Some(record) = wrong {
-        records.insert(rng.below(records.len() + 1), record);
+        insert(records, record, rng);
     }
 }
 

@@ -1,8 +1,8 @@
-//! The worked figures and the example of document 01 with request A2's case, one table for every implementation of the
-//! account call.
+//! The worked figures and the example of document 01 with request A2's case and an outfall for request A3, one table for
+//! every implementation of the account call.
 
 use crate::outcome::Outcome;
-use crate::wire::{self, Batch, Day, Head, Line, Survey};
+use crate::wire::{self, Batch, Day, Head, Line, Survey, WaterDay, WaterHead, WaterLine};
 
 #[derive(Clone, Copy, Debug)]
 enum States {
@@ -13,6 +13,8 @@ enum States {
     Row(u64, u64),
     /// The example of the document: its row, and the fill of hour 2.
     Example,
+    /// The row of an outfall of two days, and their cells; all behind them are zero.
+    TwoDays([u64; 7], [(u32, u32); 2]),
     /// No rows, no grams, no hours.
     Nothing,
 }
@@ -39,11 +41,19 @@ impl Figure {
             States::Cells(c, l) => assert_eq!((answer[0], concentration[0], flow[0]), (0, c, l), "{name}"),
             States::Row(method, grams) => assert_eq!((answer[0], rows[2], rows[3]), (0, method, grams), "{name}"),
             States::Example => {
-                assert_eq!((answer, &rows[..]), (&[0, 0, 1, 0, 126_500, 0], &[1, 2, 1, 126_500, 4, 1, 3][..]));
+                assert_eq!((answer, &rows[..]), (&[0, 0, 1, 0, 126_500, 0, 0, 0], &[1, 2, 1, 126_500, 4, 1, 3][..]));
                 assert_eq!((concentration[2], flow[2]), (3_550, 1_000_001));
             }
+            States::TwoDays(row, cells) => {
+                let mut expected = [0, 0, 1, 0, 0, 0, 0, 0];
+                expected[2 + row[1] as usize] = row[3];
+                assert_eq!((answer, &rows[..]), (&expected, &row[..]), "{name}");
+                let shown = [0, 1].map(|day| (concentration[day], flow[day]));
+                let behind = concentration[2..].iter().chain(&flow[2..]).all(|&cell| cell == 0);
+                assert_eq!((shown, behind), (cells, true), "{name}");
+            }
             States::Nothing => {
-                assert_eq!(*answer, [0; 6]);
+                assert_eq!(*answer, [0; 8]);
                 assert!(concentration.iter().chain(flow).all(|&cell| cell == 0));
             }
         }
@@ -91,12 +101,62 @@ fn fuel(name: &'static str, head: Head, batches: &[Batch], states: States) -> Fi
     Figure::of_line(name, line(head, day, batches), states)
 }
 
+/// 40.5 mg/L at 1,000 m3 on a day: 40,500 g, and c x l is 4,050 x 1,000 = 4,050,000.
+const FIRST: (f32, f32) = (40.5, 1_000.0);
+/// 30.5 mg/L at 2,001 m3 on a day: 61,030.5 g, and c x l is 3,050 x 2,001 = 6,103,050.
+const SECOND: (f32, f32) = (30.5, 2_001.0);
+
+/// A day of those readings.
+fn of_day(day: u8, (concentration, flow): (f32, f32)) -> WaterDay {
+    WaterDay::measured(day, concentration, flow)
+}
+
+fn on_day(day: u16, (concentration, flow): (f32, f32)) -> Survey {
+    Survey { hour: day, concentration, flow }
+}
+
+/// Outfall 7's line of chemical oxygen demand.
+fn outfall(name: &'static str, days: &[WaterDay], enforcement: &[Survey], plant: &[Survey], states: States) -> Figure {
+    let head = WaterHead { outfall: 7, pollutant: 4, days: days.len() as u8 };
+    let (enforcement, plant) = (enforcement.to_vec(), plant.to_vec());
+    let line = WaterLine { head, days: days.to_vec(), enforcement, plant };
+    Figure { name, file: wire::file(&[line]), states }
+}
+
+/// An outfall of two days, of which the second is missing or has stopped in most.
+fn outfalls() -> Vec<Figure> {
+    let measured = [of_day(0, FIRST), of_day(1, SECOND)];
+    let dark = [of_day(0, FIRST), WaterDay::missing(1)];
+    let stopped = [WaterDay::stopped(0), WaterDay::stopped(1)];
+    let half_stopped = [WaterDay::stopped(0), of_day(1, SECOND)];
+    let (first, second) = ((4_050, 1_000), (3_050, 2_001));
+    // 4,050,000 + 6,103,050 = 10,153,050; over 100 it is 101,530.5, halves up.
+    let automatic = States::TwoDays([7, 4, 1, 101_531, 2, 0, 0], [first, second]);
+    // The one survey is 6,103,050, times 2 running days over 1 x 100; it stands for the reading of day 0 too.
+    let manual = States::TwoDays([7, 4, 2, 122_061, 2, 1, 2], [second, (0, 0)]);
+    // 6,103,050 over 100 is 61,030.5, halves up.
+    let second_alone = States::TwoDays([7, 4, 1, 61_031, 1, 0, 0], [(0, 0), second]);
+    let nothing = States::TwoDays([7, 4, 1, 0, 0, 0, 0], [(0, 0), (0, 0)]);
+    let (of_second, of_first) = ([on_day(1, SECOND)], [on_day(1, FIRST)]);
+    vec![
+        outfall("two days", &measured, &[], &[], automatic),
+        outfall("two days, one missing and surveyed by enforcement", &dark, &of_second, &[], automatic),
+        outfall("two days, one missing and surveyed by the plant", &dark, &[], &of_second, automatic),
+        outfall("two days, one missing and surveyed by both", &dark, &of_second, &of_first, automatic),
+        outfall("two days, one missing, and the other surveyed", &dark, &[on_day(0, SECOND)], &[], manual),
+        outfall("two days, one missing", &dark, &[], &[], States::Refused(18)),
+        outfall("two days, one stopped", &half_stopped, &[], &[], second_alone),
+        outfall("two days stopped", &stopped, &[], &[], nothing),
+        outfall("two days, one stopped and surveyed", &half_stopped, &[on_day(0, FIRST)], &[], States::Refused(5)),
+    ]
+}
+
 /// All figures, the example and the empty file.
 pub fn figures() -> Vec<Figure> {
     let dioxide = Head { pollutant: 1, ..HEAD };
     let stronger = Batch { sulphur: 100, ..BATCH };
     let survey = Survey { hour: 2, concentration: 30.0, flow: 100.0 };
-    vec![
+    let mut figures = vec![
         reading("0.125 gives 13", 0.125, 1.0, States::Cells(13, 1)),
         reading("10000 + 5/1024", 10_000.0 + 5.0 / 1024.0, 1.0, States::Cells(1_000_000, 1)),
         reading("10000 + 6/1024", 10_000.0 + 6.0 / 1024.0, 1.0, States::Refused(4)),
@@ -114,7 +174,9 @@ pub fn figures() -> Vec<Figure> {
         fuel("dust", Head { pollutant: 3, ..HEAD }, &[BATCH], States::Row(4, 195_330_000)),
         Figure { name: "example", file: example(), states: States::Example },
         Figure { name: "empty", file: Vec::new(), states: States::Nothing },
-    ]
+    ];
+    figures.extend(outfalls());
+    figures
 }
 
 /// The example file of document 01.

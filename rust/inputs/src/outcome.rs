@@ -2,10 +2,10 @@
 
 use std::fmt::Debug;
 
-/// Number, place, row count and three totals, and the lent cells as they stand after the call.
+/// Number, place, row count and five totals, and the lent cells as they stand after the call.
 #[derive(Clone, Debug, PartialEq, Eq)]
 pub struct Outcome {
-    pub answer: [u64; 6],
+    pub answer: [u64; 8],
     pub rows: Vec<u64>,
     pub concentration: Vec<u32>,
     pub flow: Vec<u32>,
@@ -50,12 +50,12 @@ mod tests {
 
     #[test]
     fn names_the_first_difference() {
-        let one = Outcome { answer: [0; 6], rows: vec![1; 7], concentration: vec![2; 3], flow: vec![3; 3] };
+        let one = Outcome { answer: [0; 8], rows: vec![1; 7], concentration: vec![2; 3], flow: vec![3; 3] };
         assert_eq!(one.difference(&one), None);
         let other = Outcome { flow: vec![3, 3, 4], ..one.clone() };
         assert_eq!(one.difference(&other).as_deref(), Some("flow cell 2 is 3, and was to be 4"));
         let short = Outcome { rows: vec![1; 6], ..one.clone() };
         assert_eq!(one.difference(&short).as_deref(), Some("there are 7 row cells, and were to be 6"));
-        assert!(one.difference(&Outcome { answer: [1; 6], ..one.clone() }).is_some());
+        assert!(one.difference(&Outcome { answer: [1; 8], ..one.clone() }).is_some());
     }
 }

@@ -27,7 +27,7 @@ pub enum Size {
 }
 
 impl Size {
-    fn days(self, rng: &mut Rng) -> usize {
+    pub(crate) fn days(self, rng: &mut Rng) -> usize {
         match self {
             Size::Short => rng.between(1, 6),
             Size::Medium => rng.between(7, 39),
@@ -38,7 +38,7 @@ impl Size {
         }
     }
 
-    fn lines(self, rng: &mut Rng) -> usize {
+    pub(crate) fn lines(self, rng: &mut Rng) -> usize {
         match self {
             Size::Short => rng.pick(&[1, 1, 1, 2, 2, 3]),
             Size::Medium | Size::Long => rng.between(1, 2),
@@ -66,7 +66,8 @@ pub fn lines(size: Size, rng: &mut Rng) -> Vec<Line> {
     lines
 }
 
-fn line(stack: u16, pollutant: u8, count: usize, rng: &mut Rng) -> Line {
+/// A line that is accepted.
+pub fn line(stack: u16, pollutant: u8, count: usize, rng: &mut Rng) -> Line {
     let days = hours::days(count, rng);
     let (enforcement, plant) = surveys(&days, rng);
     let required = rng.below(2) as u8;

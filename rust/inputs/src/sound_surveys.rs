@@ -1,4 +1,4 @@
-//! The surveys of a sound line: anywhere it ran, or where the analyser was down.
+//! The surveys of a sound line: anywhere it ran, or where the analyser was down; of an outfall by day.
 
 use crate::hours::LONG;
 use crate::reading;
@@ -6,12 +6,12 @@ use crate::rng::Rng;
 use crate::wire::{Day, Survey};
 
 /// Surveys that a line may have.
-const MOST: usize = 120;
+pub const MOST: usize = 120;
 
-/// A running hour and whether it was measured.
-type Hour = (u16, bool);
+/// A running hour and whether it was measured; of an outfall a running day.
+pub type Hour = (u16, bool);
 /// The hours that each office surveys: enforcement, then plant.
-type Offices = (Vec<u16>, Vec<u16>);
+pub type Offices = (Vec<u16>, Vec<u16>);
 
 /// The surveys of each office; not every line has any. In long lines they often feed a window.
 pub fn surveys(days: &[Day], rng: &mut Rng) -> (Vec<Survey>, Vec<Survey>) {
@@ -37,7 +37,7 @@ fn running(days: &[Day]) -> Vec<Hour> {
 }
 
 /// At running hours, measured and missing ones, some of them by both offices at one hour.
-fn anywhere(running: &[Hour], rng: &mut Rng) -> Offices {
+pub fn anywhere(running: &[Hour], rng: &mut Rng) -> Offices {
     let running: Vec<u16> = running.iter().map(|&(hour, _)| hour).collect();
     let of = rng.pick(&[2, 8, 30, 120]);
     let shared = rng.sample(&running, 1, 2 * of, 40);
@@ -86,7 +86,7 @@ fn but_the_longest(gaps: &[Vec<u16>]) -> Vec<u16> {
 }
 
 /// One office for all hours, both at each hour, or any at any; both as long as the number of surveys allows it.
-fn by_offices(hours: &[u16], rng: &mut Rng) -> Offices {
+pub fn by_offices(hours: &[u16], rng: &mut Rng) -> Offices {
     let offices = [(true, false), (false, true), (true, true)];
     let for_all = offices.get(rng.below(5));
     let mut spare = MOST - hours.len();

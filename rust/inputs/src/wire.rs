@@ -20,6 +20,7 @@ pub struct Day {
     pub pairs: [(f32, f32); 24],
 }
 
+/// A survey of an hour, of an outfall that of a day.
 #[derive(Clone, Copy, Debug)]
 pub struct Survey {
     pub hour: u16,
@@ -43,6 +44,38 @@ pub struct Line {
     pub batches: Vec<Batch>,
 }
 
+/// The head of an outfall's line.
+#[derive(Clone, Copy, Debug)]
+pub struct WaterHead {
+    pub outfall: u16,
+    pub pollutant: u8,
+    pub days: u8,
+}
+
+#[derive(Clone, Copy, Debug)]
+pub struct WaterDay {
+    pub day: u8,
+    /// 0 is stopped, 1 missing, 2 measured.
+    pub state: u8,
+    pub pair: (f32, f32),
+}
+
+/// A line of discharge water, whose surveys are by day.
+#[derive(Clone, Debug)]
+pub struct WaterLine {
+    pub head: WaterHead,
+    pub days: Vec<WaterDay>,
+    pub enforcement: Vec<Survey>,
+    pub plant: Vec<Survey>,
+}
+
+/// A line of a file that has stacks and outfalls.
+#[derive(Clone, Debug)]
+pub enum AnyLine {
+    Stack(Line),
+    Outfall(WaterLine),
+}
+
 #[derive(Clone, Debug)]
 pub enum Record {
     Head(Head),
@@ -50,6 +83,10 @@ pub enum Record {
     Enforcement(Survey),
     Plant(Survey),
     Batch(Batch),
+    WaterHead(WaterHead),
+    WaterDay(WaterDay),
+    WaterEnforcement(Survey),
+    WaterPlant(Survey),
     End,
     /// Bytes as they stand, for records of no proper form.
     Raw(Vec<u8>),
@@ -83,6 +120,20 @@ impl Day {
     }
 }
 
+impl WaterDay {
+    pub fn stopped(day: u8) -> Self {
+        WaterDay { day, state: 0, pair: (0.0, 0.0) }
+    }
+
+    pub fn missing(day: u8) -> Self {
+        WaterDay { day, state: 1, pair: (0.0, 0.0) }
+    }
+
+    pub fn measured(day: u8, concentration: f32, flow: f32) -> Self {
+        WaterDay { day, state: 2, pair: (concentration, flow) }
+    }
+}
+
 impl Line {
     pub fn records(&self) -> Vec<Record> {
         let mut records = vec![Record::Head(self.head)];
@@ -95,6 +146,43 @@ impl Line {
     }
 }
 
+impl WaterLine {
+    pub fn records(&self) -> Vec<Record> {
+        let mut records = vec![Record::WaterHead(self.head)];
+        records.extend(self.days.iter().copied().map(Record::WaterDay));
+        records.extend(self.enforcement.iter().copied().map(Record::WaterEnforcement));
+        records.extend(self.plant.iter().copied().map(Record::WaterPlant));
+        records.push(Record::End);
+        records
+    }
+}
+
+/// A line of either world, or of one that is known.
+pub trait Written {
+    fn written(&self) -> Vec<Record>;
+}
+
+impl Written for Line {
+    fn written(&self) -> Vec<Record> {
+        self.records()
+    }
+}
+
+impl Written for WaterLine {
+    fn written(&self) -> Vec<Record> {
+        self.records()
+    }
+}
+
+impl Written for AnyLine {
+    fn written(&self) -> Vec<Record> {
+        match self {
+            AnyLine::Stack(line) => line.records(),
+            AnyLine::Outfall(line) => line.records(),
+        }
+    }
+}
+
 impl Record {
     /// The record's bytes after its length, or `None` for raw bytes.
     fn content(&self) -> Option<Vec<u8>> {
@@ -104,6 +192,10 @@ impl Record {
             Record::Enforcement(survey) => survey_bytes(3, survey),
             Record::Plant(survey) => survey_bytes(4, survey),
             Record::Batch(batch) => batch_bytes(batch),
+            Record::WaterHead(head) => water_head_bytes(head),
+            Record::WaterDay(day) => water_day_bytes(day),
+            Record::WaterEnforcement(survey) => survey_bytes(11, survey),
+            Record::WaterPlant(survey) => survey_bytes(12, survey),
             Record::End => 6u16.to_le_bytes().to_vec(),
             Record::Raw(_) => return None,
         })
@@ -156,9 +248,24 @@ fn batch_bytes(batch: &Batch) -> Vec<u8> {
     bytes
 }
 
+fn water_head_bytes(head: &WaterHead) -> Vec<u8> {
+    let mut bytes = 9u16.to_le_bytes().to_vec();
+    bytes.extend(head.outfall.to_le_bytes());
+    bytes.extend([head.pollutant, head.days]);
+    bytes
+}
+
+fn water_day_bytes(day: &WaterDay) -> Vec<u8> {
+    let mut bytes = 10u16.to_le_bytes().to_vec();
+    bytes.extend([day.day, day.state]);
+    bytes.extend(day.pair.0.to_le_bytes());
+    bytes.extend(day.pair.1.to_le_bytes());
+    bytes
+}
+
 /// The records of a file, one after another.
-pub fn records(lines: &[Line]) -> Vec<Record> {
-    lines.iter().flat_map(Line::records).collect()
+pub fn records<L: Written>(lines: &[L]) -> Vec<Record> {
+    lines.iter().flat_map(L::written).collect()
 }
 
 /// The bytes of a file of records.
@@ -167,6 +274,6 @@ pub fn bytes(records: &[Record]) -> Vec<u8> {
 }
 
 /// The bytes of a file of lines.
-pub fn file(lines: &[Line]) -> Vec<u8> {
+pub fn file<L: Written>(lines: &[L]) -> Vec<u8> {
     bytes(&records(lines))
 }

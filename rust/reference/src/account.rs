@@ -3,7 +3,8 @@
 use crate::hours::{HOURS, Tables};
 use crate::line::{Line, Row, Title};
 use crate::record::{Head, Record, split_record};
-use crate::refusal::{Fault, Refusal};
+use crate::refusal::{Fault, Refusal, demand};
+use crate::water;
 
 const MOST_LINES: usize = 48;
 
@@ -13,14 +14,15 @@ pub struct Answer {
     pub number: u32,
     pub place: u64,
     pub rows: u64,
-    pub totals: [u64; 3],
+    /// The grams of each pollutant: three of air, two of water.
+    pub totals: [u64; 5],
 }
 
 impl Answer {
-    /// The answer in six cells: number, place, row count and the three totals.
-    pub fn cells(&self) -> [u64; 6] {
-        let [first, second, third] = self.totals;
-        [u64::from(self.number), self.place, self.rows, first, second, third]
+    /// The answer in eight cells: number, place, row count and the five totals.
+    pub fn cells(&self) -> [u64; 8] {
+        let [dioxide, oxides, dust, oxygen_demand, ammonia] = self.totals;
+        [u64::from(self.number), self.place, self.rows, dioxide, oxides, dust, oxygen_demand, ammonia]
     }
 
     fn refused(fault: Fault) -> Self {
@@ -46,7 +48,7 @@ pub fn account(file: &[u8], rows: &mut [u64], concentration: &mut [u32], flow: &
 fn hand_over(stated: &[Row], rows: &mut [u64]) -> Result<Answer, Fault> {
     let cells = stated.as_flattened();
     rows.get_mut(..cells.len()).ok_or(Refusal::FewRows.at(0))?.copy_from_slice(cells);
-    let mut totals = [0; 3];
+    let mut totals = [0; 5];
     for [_, pollutant, _, grams, ..] in stated {
         totals[*pollutant as usize - 1] += grams;
     }
@@ -76,27 +78,28 @@ impl<'a> Walk<'a> {
         self.next()?.ok_or(Refusal::Place.at(self.place))
     }
 
-    /// All lines of the file; leaves the last one's hours in the tables.
+    /// All lines of the file; leaves the last one's hours or days in the tables.
     fn lines(mut self, tables: &mut Tables) -> Result<Vec<Row>, Fault> {
         let mut rows = Vec::new();
-        let mut line = Line::default();
+        let mut room = Room::default();
         let mut last = None;
-        let mut hours = 0;
+        let mut cells = 0;
         while let Some((place, record)) = self.next()? {
-            let Record::Head(head) = record else {
-                return Err(Refusal::Place.at(place));
+            let title = next_title(record, last, rows.len()).map_err(|fault| fault.of_record_at(place))?;
+            let (row, used) = match title.of {
+                Of::Stack(title) => (self.stack(&title, &mut room.stack, tables)?, 24 * usize::from(title.days)),
+                Of::Outfall(title) => (self.outfall(&title, &mut room.outfall, tables)?, usize::from(title.days)),
             };
-            let title = next_title(head, last, rows.len()).map_err(|fault| fault.of_record_at(place))?;
-            rows.push(self.line(&title, &mut line, tables)?);
-            last = Some((head.stack, head.pollutant));
-            hours = 24 * usize::from(title.days);
+            rows.push(row);
+            last = Some(title.name);
+            cells = used;
         }
-        tables.clear_from(hours);
+        tables.clear_from(cells);
         Ok(rows)
     }
 
-    /// The records of one line after its head.
-    fn line(&mut self, title: &Title, line: &mut Line, tables: &mut Tables) -> Result<Row, Fault> {
+    /// The records of a stack's line after its head.
+    fn stack(&mut self, title: &Title, line: &mut Line, tables: &mut Tables) -> Result<Row, Fault> {
         line.restart();
         for _ in 0..title.days {
             let (place, record) = self.next_inside()?;
@@ -108,21 +111,67 @@ impl<'a> Walk<'a> {
         loop {
             let (place, record) = self.next_inside()?;
             let judged = match record {
-                Record::Head(_) | Record::Day(_) => Err(Refusal::Place.at_record()),
                 Record::Survey(survey) => line.add_survey(survey, tables),
                 Record::Batch(batch) => line.add_batch(batch),
                 Record::End => return line.row(title, tables).map_err(|refusal| refusal.at(place)),
+                _ => Err(Refusal::Place.at_record()),
+            };
+            judged.map_err(|fault| fault.of_record_at(place))?;
+        }
+    }
+
+    /// The records of an outfall's line after its head.
+    fn outfall(&mut self, title: &water::Title, line: &mut water::Line, tables: &mut Tables) -> Result<Row, Fault> {
+        line.restart();
+        for _ in 0..title.days {
+            let (place, record) = self.next_inside()?;
+            let Record::WaterDay(day) = record else {
+                return Err(Refusal::Place.at(place));
+            };
+            line.add_day(day, tables).map_err(|fault| fault.of_record_at(place))?;
+        }
+        loop {
+            let (place, record) = self.next_inside()?;
+            let judged = match record {
+                Record::WaterSurvey(survey) => line.add_survey(survey, tables),
+                Record::End => return line.row(title, tables).map_err(|refusal| refusal.at(place)),
+                _ => Err(Refusal::Place.at_record()),
             };
             judged.map_err(|fault| fault.of_record_at(place))?;
         }
     }
 }
 
-/// A head judged: lines rise and are at most 48, and the fields are in range.
-fn next_title(head: Head, last: Option<(u16, u8)>, lines: usize) -> Result<Title, Fault> {
-    let rises = last.is_none_or(|last| last < (head.stack, head.pollutant));
-    if !rises || lines == MOST_LINES {
+/// Lines that are kept for their room.
+#[derive(Default)]
+struct Room {
+    stack: Line,
+    outfall: water::Line,
+}
+
+/// What a line is of.
+enum Of {
+    Stack(Title),
+    Outfall(water::Title),
+}
+
+/// A head judged, with its number and pollutant.
+struct Judged {
+    name: (u16, u8),
+    of: Of,
+}
+
+/// A head judged: lines of stacks and outfalls rise together and are at most 48, and the fields are in range.
+fn next_title(record: Record, last: Option<(u16, u8)>, lines: usize) -> Result<Judged, Fault> {
+    let Record::Head(head) = record else {
         return Err(Refusal::Place.at_record());
-    }
-    Title::judged(head)
+    };
+    let name = head.name();
+    let rises = last.is_none_or(|last| last < name);
+    demand(rises && lines < MOST_LINES, Refusal::Place.at_record())?;
+    let of = match head {
+        Head::Stack(head) => Of::Stack(Title::judged(head)?),
+        Head::Outfall(head) => Of::Outfall(water::Title::judged(head)?),
+    };
+    Ok(Judged { name, of })
 }

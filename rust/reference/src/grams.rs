@@ -1,4 +1,4 @@
-//! Grams, by each of the four methods.
+//! Grams, by each of the four methods; of water by the first two.
 
 use crate::hours::Values;
 use crate::line::{Boiler, Pollutant};
@@ -11,16 +11,33 @@ fn rounded_quotient(numerator: u64, denominator: u64) -> u64 {
     (numerator + denominator / 2) / denominator
 }
 
-/// From the sum of c x l over the running hours, missing ones filled.
-pub(crate) fn automatic(sum_of_products: u64) -> u64 {
-    rounded_quotient(sum_of_products, 100_000)
+/// What c x l counts in: air 0.01 mg, by hundredths of mg/m3; water 10 mg, by hundredths of mg/L.
+#[derive(Clone, Copy, Debug)]
+pub(crate) enum Scale {
+    Air,
+    Water,
 }
 
-/// From the governing surveys of distinct hours.
-pub(crate) fn manual(surveyed: impl ExactSizeIterator<Item = Values>, running: u64) -> u64 {
+impl Scale {
+    /// How many of c x l are a gram.
+    fn gram(self) -> u64 {
+        match self {
+            Scale::Air => 100_000,
+            Scale::Water => 100,
+        }
+    }
+}
+
+/// From the sum of c x l over the running hours or days, missing hours filled.
+pub(crate) fn automatic(sum_of_products: u64, scale: Scale) -> u64 {
+    rounded_quotient(sum_of_products, scale.gram())
+}
+
+/// From the governing surveys of distinct hours or days.
+pub(crate) fn manual(surveyed: &[Values], running: u64, scale: Scale) -> u64 {
     let count = surveyed.len() as u64;
-    let sum: u64 = surveyed.map(Values::product).sum();
-    rounded_quotient(sum * running, count * 100_000)
+    let sum: u64 = surveyed.iter().map(Values::product).sum();
+    rounded_quotient(sum * running, count * scale.gram())
 }
 
 /// From the fuel: sulphur dioxide by balance, the others by coefficient.

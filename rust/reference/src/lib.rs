@@ -1,5 +1,5 @@
-//! The quarter account of document 01 with requests A1 and A2 of document 02, written from the documents and not from
-//! the proved code.
+//! The quarter account of document 01 with requests A1 to A3 of document 02, written from the documents and not from the
+//! proved code.
 //!
 //! It shares no code with the proved library. The comparison tests hold the two against each other, and the benchmark
 //! takes this one as its baseline.
@@ -16,7 +16,9 @@ mod reading;
 mod record;
 mod refusal;
 mod survey;
+mod surveys;
 mod tables;
+mod water;
 
 pub use account::{Answer, account};
 pub use hours::HOURS;

@@ -31,7 +31,7 @@ pub fn text(answer: &Answer, rows: &[u64]) -> String {
         text.push_str(&fields.join(" "));
         text.push('\n');
     }
-    let [first, second, third] = answer.totals;
-    writeln!(text, "total {first} {second} {third}").expect("a String takes every write");
+    let totals = answer.totals.map(|total| total.to_string());
+    writeln!(text, "total {}", totals.join(" ")).expect("a String takes every write");
     text
 }

@@ -1,6 +1,6 @@
 //! The numbers that say no.
 
-/// A reason to refuse; its discriminant is the number of document 01 and, from 14 on, of request A1. 3 is not given.
+/// A reason to refuse; its discriminant is the number of document 01, from 14 on of requests A1 and A3. 3 is not given.
 #[derive(Clone, Copy, Debug, PartialEq, Eq)]
 #[repr(u32)]
 pub enum Refusal {
@@ -17,9 +17,11 @@ pub enum Refusal {
     Unlawful = 12,
     TooLong = 13,
     HeadField = 14,
+    /// Of water the state of a day.
     Mask = 15,
     Fuel = 16,
     PastPeriod = 17,
+    NoMethod = 18,
 }
 
 impl Refusal {
@@ -49,4 +51,9 @@ impl Fault {
     pub fn of_record_at(self, record: usize) -> Self {
         Fault { place: record + self.place, ..self }
     }
+}
+
+/// What has to hold of a record, or else this fault.
+pub(crate) fn demand(holds: bool, fault: Fault) -> Result<(), Fault> {
+    if holds { Ok(()) } else { Err(fault) }
 }

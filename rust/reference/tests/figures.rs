@@ -1,4 +1,4 @@
-//! The reference against the worked figures of document 01 and request A2's case.
+//! The reference against the worked figures of document 01, request A2's case and the outfall for request A3.
 
 use inputs::Outcome;
 
@@ -13,5 +13,5 @@ fn states_the_worked_figures() {
 
 #[test]
 fn prints_the_example() {
-    assert_eq!(reference::printed(&inputs::figures::example()), "1 2 1 126500 4 1 3\ntotal 0 126500 0\n");
+    assert_eq!(reference::printed(&inputs::figures::example()), "1 2 1 126500 4 1 3\ntotal 0 126500 0 0 0\n");
 }

@@ -3,7 +3,7 @@
 use inputs::{Case, Census, Outcome, Rng};
 
 const SEED: u64 = 0x0d0a_29e2_0008;
-const INPUTS: usize = 120_000;
+const INPUTS: usize = 180_000;
 const LEAST: u64 = 100;
 
 #[test]

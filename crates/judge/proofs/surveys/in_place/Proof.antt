@@ -10,13 +10,13 @@ cast-phase : tie.Need-cast-phase
 cast-phase c = search needs
 
 cast-left : tie.Need-cast-left
-cast-left c = omega (arith, c .struct-known5 .given)
+cast-left c = omega (arith, c .struct-known4 .given)
 
 cast-left-2 : tie.Need-cast-left-2
-cast-left-2 c = omega (arith, c .struct-known6 .given)
+cast-left-2 c = omega (arith, c .struct-known5 .given)
 
 add-left : tie.Need-add-left
-add-left c = omega (arith, c .before .struct-known5 .given, c .struct-known6 .given)
+add-left c = omega (arith, c .before .struct-known4 .given, c .struct-known5 .given)
 
 returns : tie.Need-returns
 unfolding surveysLeft

@@ -12,21 +12,24 @@ use Rattle.walk.proofs.close.line_grams.Statement.{statement}
 use Rattle.walk.proofs.close.line_grams.Tie as tie
 
 period-weight-requires : tie.Need-period-weight-requires
-period-weight-requires c κs = let p = c .before .before .before .before .pre in (p .concLong, p .flowLong, omega (arith, p .weighed (c .if1 .taken)))
+period-weight-requires c κs = let t = c .before in let p = t .before .before .before .before .pre in (p .concLong, p .flowLong, omega (arith, p .weighed (t .if1 .taken)))
 
 grams-of-requires : tie.Need-grams-of-requires
-grams-of-requires c κs = let t = c .before in let p = t .before .before .before .before .pre in (omega arith, omega (arith, c .period-weight .ensures, p .weighed (t .if1 .taken)))
+grams-of-requires c κs =
+    let t = c .before .before in
+    let p = t .before .before .before .before .pre in
+    (omega arith, omega arith, omega arith, omega (arith, c .period-weight .ensures, p .weighed (t .if1 .taken)))
 
 returns : tie.Need-returns
 returns c =
     let w = c .before in
-    pick-eq _ _ _ _ _ (w .before .if1 .taken) (c .grams-of .ensures ∙ ap (λ (n : ℕ). halvesUp n (1 * perGram)) (w .period-weight .ensures))
+    pick-eq _ _ _ _ _ (w .before .before .if1 .taken) (c .grams-of .ensures ∙ ap (λ (n : ℕ). halvesUp n (1 * perGram)) (w .period-weight .ensures))
 
 mul-grams-of : tie.Need-mul-grams-of
 mul-grams-of c = let p = c .before .before .before .before .before .before .before .pre in omega (arith, mul-le-mul (p .weight) (p .running))
 
 grams-of-requires-2 : tie.Need-grams-of-requires-2
-grams-of-requires-2 c κs = let p = c .before .before .before .before .before .before .before .pre in (p .some (c .before .before .if2 .taken), mul-le-mul (p .weight) (p .running))
+grams-of-requires-2 c κs = let p = c .before .before .before .before .before .before .before .pre in (p .some (c .before .before .if2 .taken), omega arith, omega arith, mul-le-mul (p .weight) (p .running))
 
 returns-2 : tie.Need-returns-2
 returns-2 c =
@@ -42,6 +45,8 @@ pub line-grams-spec : {M : Type 1} → statement M
 line-grams-spec =
     tie.close
     (tie.spec
+    (λ c. search needs)
+    (λ c. search needs)
     period-weight-requires
     grams-of-requires
     returns
