@@ -1,11 +1,12 @@
 -- A proof of each statement of specs/Demands.antt. Assumes nothing.
-use mathlib.Core.Path.{_≡_, refl, sym, ap, _∙_}
+use mathlib.Core.Path.{_≡_, refl, sym, ap, _∙_, subst}
+use mathlib.Core.Logic.{_⊎_, ⊎-elim}
 use mathlib.Core.Bool.{Bool, true, false, not}
 use mathlib.Core.List.{List}
-use Prim.Native.Nat.{ℕ, zero, suc, _*_, _/_, _^_}
+use Prim.Native.Nat.{ℕ, zero, suc, _+_, _-_, _*_, _/_, _^_, _<_}
 use native.Mathlib.Nat.{zero-mul, zero-div}
 use native.Mathlib.Omega.{arith}
-use lib.ListN.{length, getD}
+use lib.ListN.{length, getD, replicate}
 use lib.Dec.{T}
 use lib.IntN.{ℤ}
 use lib.Ieee.{Float, nan, inf, fin, binary32, up, down, fits}
@@ -32,12 +33,19 @@ use Rattle.panel.proofs.Runs.{run-exact, run-fits, run-good, run-value, run-acc
 use Rattle.survey.specs.Governing.{isSurvey, part, surveyOr, governing}
 use Rattle.survey.proofs.Only.{governing-survey}
 use Rattle.figures.specs.Example.{example}
+use Rattle.law.specs.Numbers.{mostHours, rowCells}
+use Rattle.rules.specs.Measured.{Measured}
+use Rattle.rules.specs.Grams.{automatic, manual}
+use Rattle.allowance.specs.Allowance.{Filling, inAir, inWater, AutomaticNear, ManualNear}
+use Rattle.allowance.proofs.Account.{FillsOff}
+use Rattle.allowance.proofs.Fills.{fills-off, unfilled-off}
+use Rattle.allowance.proofs.Near.{automatic-near, manual-near, stack-near, outfall-near}
 use Rattle.quarter.proofs.account.Met.{met as account-met}
 use Rattle.panel.proofs.Panel.hour.Met.{met as hour-met}
 use Rattle.survey.proofs.governing_survey.Met.{met as governing-met}
 use Rattle.demands.specs.Demands.{Call, Result, Lent, Kept, Version, Keeps, gramsIn, Taken, NoneOfFour, EveryRowNear, RefusesAll, PanelExact, Governs, Demands, Code}
 use Rattle.demands.proofs.Falsity.{false-true, differ}
-use Rattle.demands.proofs.Files.{second, two, callOf, lent-all, Given, given-all}
+use Rattle.demands.proofs.Files.{second, two, outfall, dirtier, mixed, callOf, lent-all, rowsTo, Given, given-all}
 use Rattle.demands.proofs.Rows.{row-near}
 
 -- ---- demand 1
@@ -67,39 +75,127 @@ one c = (resultOf c, kept c, λ s k. same s k)
         λ i. record { answer = e .0 i; rows = e .1 i; concentrations = e .2 i; flows = e .3 i }
 
 -- ---- demand 2
-module _ (v : Version) (k : Keeps v) where
-  taken-of : (file : List ℕ) (n : ℕ) → Given file n → Lent (callOf file) → Taken v n
-  taken-of file n g l =
-      let e = k (callOf file) l .answers in
-      record { call = callOf file; lent = l; number = ap (λ (a : Answer). a .number) e ∙ g .number; count = ap (λ (a : Answer). a .rows) e ∙ g .rows }
+-- three files that show it: two with one line and other grams, and one with two lines; what they give, by the definitions
+record Shown (pollutant : ℕ) : Type 0 where
+  this : List ℕ
+  other : List ℕ
+  both : List ℕ
+  lentThis : Lent (callOf this)
+  lentOther : Lent (callOf other)
+  lentBoth : Lent (callOf both)
+  givenThis : Given this 1
+  givenOther : Given other 1
+  givenBoth : Given both 2
+  ofThis : getD (rowsTo this) 1 0 ≡ pollutant
+  ofOther : getD (rowsTo other) 1 0 ≡ pollutant
+  ofBoth : getD (rowsTo both) 8 0 ≡ pollutant
+  gramsDiffer : getD (rowsTo this) 3 0 ≡ getD (rowsTo other) 3 0 → ⊥
+  linesDiffer : getD (rowsTo both) 10 0 ≡ getD (rowsTo both) 3 0 → ⊥
+  rowSome : getD (rowsTo this) 3 0 ≡ 0 → ⊥
+  concentrationSome : getD (workAfter concentrationCells this 14 mostHours mostHours (replicate mostHours 0)) 0 0 ≡ 0 → ⊥
+  flowSome : getD (workAfter flowCells this 14 mostHours mostHours (replicate mostHours 0)) 0 0 ≡ 0 → ⊥
 
-none-of-four : (v : Version) → Keeps v → NoneOfFour v
-unfolding taken-of
-none-of-four v k =
+module _ (v : Version) (k : Keeps v) where
+  taken-of : (file : List ℕ) (p n : ℕ) → Given file n → Lent (callOf file) → getD (rowsTo file) (rowCells * (n - 1) + 1) 0 ≡ p → Taken v p n
+  taken-of file p n g l o =
+      let e = k (callOf file) l .answers in
+      record {
+        call = callOf file;
+        lent = l;
+        number = ap (λ (a : Answer). a .number) e ∙ g .number;
+        count = ap (λ (a : Answer). a .rows) e ∙ g .rows;
+        of = ap (λ (r : List ℕ). getD r (rowCells * (n - 1) + 1) 0) (k (callOf file) l .leaves) ∙ o;
+      }
+
+  none-by : (p : ℕ) → Shown p → NoneOfFour v p
+  unfolding taken-of
+  none-by p s =
+      let this = taken-of (s .this) p 1 (s .givenThis) (s .lentThis) (s .ofThis) in
+      let other = taken-of (s .other) p 1 (s .givenOther) (s .lentOther) (s .ofOther) in
+      let both = taken-of (s .both) p 2 (s .givenBoth) (s .lentBoth) (s .ofBoth) in
+      let kept-this = k (callOf (s .this)) (s .lentThis) in
+      let a = ap (λ (r : List ℕ). getD r 3 0) (kept-this .leaves) in
+      let b = ap (λ (r : List ℕ). getD r 3 0) (k (callOf (s .other)) (s .lentOther) .leaves) in
+      let rows = k (callOf (s .both)) (s .lentBoth) .leaves in
+      record {
+        accepts = this;
+        grams = (this, other, λ e. s .gramsDiffer (sym a ∙ e ∙ b));
+        writes = (
+          this,
+          (λ e. s .rowSome (sym a ∙ ap (λ (r : List ℕ). getD r 3 0) e)),
+          (λ e. s .concentrationSome (sym (ap (λ (r : List ℕ). getD r 0 0) (kept-this .concentrationsHold)) ∙ ap (λ (r : List ℕ). getD r 0 0) e)),
+          (λ e. s .flowSome (sym (ap (λ (r : List ℕ). getD r 0 0) (kept-this .flowsHold)) ∙ ap (λ (r : List ℕ). getD r 0 0) e)),
+        );
+        lines = (both, λ e. s .linesDiffer (sym (ap (λ (r : List ℕ). getD r 10 0) rows) ∙ e ∙ ap (λ (r : List ℕ). getD r 3 0) rows));
+      }
+
+stacks-show : Shown 2
+stacks-show =
     let g = given-all in
     let l = lent-all in
-    let p = k (callOf example) (l .ofExample) in
-    let this = taken-of v k example 1 (g .ofExample) (l .ofExample) in
-    let other = taken-of v k second 1 (g .ofSecond) (l .ofSecond) in
-    let both = taken-of v k two 2 (g .ofTwo) (l .ofTwo) in
-    let a : gramsIn (v (callOf example)) 0 ≡ 126_500 = ap (λ (r : List ℕ). getD r 3 0) (p .leaves ∙ g .rowExample) in
-    let b : gramsIn (v (callOf second)) 0 ≡ 136_500 = ap (λ (r : List ℕ). getD r 3 0) (k (callOf second) (l .ofSecond) .leaves ∙ g .rowSecond) in
-    let rows = k (callOf two) (l .ofTwo) .leaves ∙ g .rowsTwo in
-    let c : gramsIn (v (callOf two)) 0 ≡ 126_500 = ap (λ (r : List ℕ). getD r 3 0) rows in
-    let d : gramsIn (v (callOf two)) 1 ≡ 136_500 = ap (λ (r : List ℕ). getD r 10 0) rows in
-    let m : getD (v (callOf example) .concentrations) 0 0 ≡ 2000 = ap (λ (r : List ℕ). getD r 0 0) (p .concentrationsHold) ∙ g .concentration in
-    let n : getD (v (callOf example) .flows) 0 0 ≡ 1000000 = ap (λ (r : List ℕ). getD r 0 0) (p .flowsHold) ∙ g .flow in
+    let a : getD (rowsTo example) 3 0 ≡ 126_500 = ap (λ (r : List ℕ). getD r 3 0) (g .rowExample) in
+    let b : getD (rowsTo second) 3 0 ≡ 136_500 = ap (λ (r : List ℕ). getD r 3 0) (g .rowSecond) in
+    let c : getD (rowsTo two) 3 0 ≡ 126_500 = ap (λ (r : List ℕ). getD r 3 0) (g .rowsTwo) in
+    let d : getD (rowsTo two) 10 0 ≡ 136_500 = ap (λ (r : List ℕ). getD r 10 0) (g .rowsTwo) in
     record {
-      accepts = this;
-      grams = (this, other, λ e. differ _ _ _ _ a b (omega arith) e);
-      writes = (
-        this,
-        (λ e. differ _ _ _ _ a refl (omega arith) (ap (λ (r : List ℕ). getD r 3 0) e)),
-        (λ e. differ _ _ _ _ m refl (omega arith) (ap (λ (r : List ℕ). getD r 0 0) e)),
-        (λ e. differ _ _ _ _ n refl (omega arith) (ap (λ (r : List ℕ). getD r 0 0) e)),
-      );
-      lines = (both, λ e. differ _ _ _ _ c d (omega arith) (sym e));
+      this = example;
+      other = second;
+      both = two;
+      lentThis = l .ofExample;
+      lentOther = l .ofSecond;
+      lentBoth = l .ofTwo;
+      givenThis = g .ofExample;
+      givenOther = g .ofSecond;
+      givenBoth = g .ofTwo;
+      ofThis = ap (λ (r : List ℕ). getD r 1 0) (g .rowExample);
+      ofOther = ap (λ (r : List ℕ). getD r 1 0) (g .rowSecond);
+      ofBoth = ap (λ (r : List ℕ). getD r 8 0) (g .rowsTwo);
+      gramsDiffer = λ e. differ _ _ _ _ a b (omega arith) e;
+      linesDiffer = λ e. differ _ _ _ _ d c (omega arith) e;
+      rowSome = λ e. differ _ _ _ _ a refl (omega arith) e;
+      concentrationSome = λ e. differ _ _ _ _ (g .concentration) refl (omega arith) e;
+      flowSome = λ e. differ _ _ _ _ (g .flow) refl (omega arith) e;
     }
+
+outfalls-show : Shown 4
+outfalls-show =
+    let g = given-all in
+    let l = lent-all in
+    let a : getD (rowsTo outfall) 3 0 ≡ 20_000 = ap (λ (r : List ℕ). getD r 3 0) (g .rowOutfall) in
+    let b : getD (rowsTo dirtier) 3 0 ≡ 30_000 = ap (λ (r : List ℕ). getD r 3 0) (g .rowDirtier) in
+    let c : getD (rowsTo mixed) 3 0 ≡ 126_500 = ap (λ (r : List ℕ). getD r 3 0) (g .rowsMixed) in
+    let d : getD (rowsTo mixed) 10 0 ≡ 20_000 = ap (λ (r : List ℕ). getD r 10 0) (g .rowsMixed) in
+    record {
+      this = outfall;
+      other = dirtier;
+      both = mixed;
+      lentThis = l .ofOutfall;
+      lentOther = l .ofDirtier;
+      lentBoth = l .ofMixed;
+      givenThis = g .ofOutfall;
+      givenOther = g .ofDirtier;
+      givenBoth = g .ofMixed;
+      ofThis = ap (λ (r : List ℕ). getD r 1 0) (g .rowOutfall);
+      ofOther = ap (λ (r : List ℕ). getD r 1 0) (g .rowDirtier);
+      ofBoth = ap (λ (r : List ℕ). getD r 8 0) (g .rowsMixed);
+      gramsDiffer = λ e. differ _ _ _ _ a b (omega arith) e;
+      linesDiffer = λ e. differ _ _ _ _ d c (omega arith) e;
+      rowSome = λ e. differ _ _ _ _ a refl (omega arith) e;
+      concentrationSome = λ e. differ _ _ _ _ (g .dayConcentration) refl (omega arith) e;
+      flowSome = λ e. differ _ _ _ _ (g .dayFlow) refl (omega arith) e;
+    }
+
+none-of-four : (v : Version) → Keeps v → NoneOfFour v 2 × NoneOfFour v 4
+none-of-four v k = (none-by v k 2 stacks-show, none-by v k 4 outfalls-show)
+
+-- ---- demand 3 over the scale
+over-scale : (f : Filling) → (f ≡ inAir) ⊎ (f ≡ inWater) → (m : Measured) → 0 < m .units
+    → AutomaticNear f m (automatic (f .values) m) × (0 < length (m .surveys) → ManualNear m (manual m))
+over-scale f w m u = (
+  ⊎-elim (λ e. automatic-near f m _ (subst (λ (g : Filling). FillsOff (2 ^ 149) (g .values) (g .exactly) (g .allows)) (sym e) (fills-off (2 ^ 149))) u refl)
+      (λ e. automatic-near f m _ (subst (λ (g : Filling). FillsOff (2 ^ 149) (g .values) (g .exactly) (g .allows)) (sym e) (unfilled-off (2 ^ 149))) u refl) w,
+  λ n. manual-near m _ u n refl,
+)
 
 -- ---- demand 3
 near : (v : Version) → Keeps v → EveryRowNear v
@@ -117,7 +213,7 @@ unfolding refuser refusal refuse
 refuses c l z = omega arith
 
 alone : (v : Version) → RefusesAll v → EveryRowNear v × (Keeps v → ⊥)
-alone v r = ((λ c l z. absurd (r c l z)), λ k. let a = none-of-four v k .accepts in r (a .call) (a .lent) (a .number))
+alone v r = ((λ c l z. absurd (r c l z)), λ k. let a = none-of-four v k .0 .accepts in r (a .call) (a .lent) (a .number))
 
 -- ---- which field
 pointed : (c : Call) (r : Result) → Kept c r → (r .answer .number ≡ 3 → ⊥) × (ofField (r .answer .number) ≡ true → PointsAt (c .file) (r .answer .number) (r .answer .place))
@@ -172,6 +268,9 @@ demands =
       one = one;
       two = none-of-four;
       three = near;
+      scale = over-scale;
+      air = stack-near;
+      water = outfall-near;
       alone = ((refuser, refuses), alone);
       places = pointed;
       outage = days-no-more;

@@ -1,5 +1,5 @@
--- Three small files, computed from the definitions alone: document 01's example of 223 bytes; the same of another stack, with 30 mg/m3 in the first hour;
--- and the two behind each other. Each is lent cells for two rows. Assumes nothing.
+-- Six small files, computed from the definitions alone: document 01's example of 223 bytes; the same of another stack, with 30 mg/m3 in the first hour;
+-- and the two behind each other; an outfall of one day; the same with 30 mg/L; and the outfall behind the example. Each is lent cells for two rows. Assumes nothing.
 use mathlib.Core.Bool.{Bool, true, _&&_}
 use mathlib.Core.List.{List, [], _∷_, _++_}
 use mathlib.Core.Path.{_≡_, refl}
@@ -23,6 +23,17 @@ second = set (set example 4 2) 29 240
 
 unfoldable pub two : List ℕ
 two = example ++ second
+
+-- an outfall of one day: 20 mg/L and 1,000 m3
+unfoldable pub outfall : List ℕ
+outfall =
+    (6 ∷ 0 ∷ 9 ∷ 0 ∷ 1 ∷ 0 ∷ 4 ∷ 1 ∷ []) ++ (12 ∷ 0 ∷ 10 ∷ 0 ∷ 0 ∷ 2 ∷ 0 ∷ 0 ∷ 160 ∷ 65 ∷ 0 ∷ 0 ∷ 122 ∷ 68 ∷ []) ++ (2 ∷ 0 ∷ 6 ∷ 0 ∷ [])
+
+unfoldable pub dirtier : List ℕ
+dirtier = set outfall 16 240
+
+unfoldable pub mixed : List ℕ
+mixed = example ++ outfall
 
 -- a call with cells for two rows, and the least work slices
 abbrev pub callOf : List ℕ → Call
@@ -52,21 +63,27 @@ pub record LentAll : Type 0 where
   pub ofExample : Lent (callOf example)
   pub ofSecond : Lent (callOf second)
   pub ofTwo : Lent (callOf two)
+  pub ofOutfall : Lent (callOf outfall)
+  pub ofDirtier : Lent (callOf dirtier)
+  pub ofMixed : Lent (callOf mixed)
 
 pub lent-all : LentAll
-unfolding every example second two
+unfolding every example second two outfall dirtier mixed
 lent-all =
     record {
       ofExample = lent-of example (slice 1 example (omega arith) tt tt);
       ofSecond = lent-of second (slice 1 second (omega arith) tt tt);
       ofTwo = lent-of two (slice 1 two (omega arith) tt tt);
+      ofOutfall = lent-of outfall (slice 1 outfall (omega arith) tt tt);
+      ofDirtier = lent-of dirtier (slice 1 dirtier (omega arith) tt tt);
+      ofMixed = lent-of mixed (slice 1 mixed (omega arith) tt tt);
     }
 
 -- ---- what they give
 abbrev answerTo : List ℕ → Answer
 answerTo file = answerOf file 14 mostHours mostHours
 
-abbrev rowsTo : List ℕ → List ℕ
+abbrev pub rowsTo : List ℕ → List ℕ
 rowsTo file = rowsAfter file (replicate 14 0) mostHours mostHours
 
 pub record Given (file : List ℕ) (count : ℕ) : Type 0 where
@@ -80,11 +97,19 @@ pub record GivenAll : Type 0 where
   pub rowExample : rowsTo example ≡ (1 ∷ 2 ∷ 1 ∷ 126_500 ∷ 4 ∷ 1 ∷ 3 ∷ []) ++ replicate 7 0
   pub rowSecond : rowsTo second ≡ (2 ∷ 2 ∷ 1 ∷ 136_500 ∷ 4 ∷ 1 ∷ 3 ∷ []) ++ replicate 7 0
   pub rowsTwo : rowsTo two ≡ (1 ∷ 2 ∷ 1 ∷ 126_500 ∷ 4 ∷ 1 ∷ 3 ∷ []) ++ (2 ∷ 2 ∷ 1 ∷ 136_500 ∷ 4 ∷ 1 ∷ 3 ∷ [])
+  pub ofOutfall : Given outfall 1
+  pub ofDirtier : Given dirtier 1
+  pub ofMixed : Given mixed 2
+  pub rowOutfall : rowsTo outfall ≡ (1 ∷ 4 ∷ 1 ∷ 20_000 ∷ 1 ∷ 0 ∷ 0 ∷ []) ++ replicate 7 0
+  pub rowDirtier : rowsTo dirtier ≡ (1 ∷ 4 ∷ 1 ∷ 30_000 ∷ 1 ∷ 0 ∷ 0 ∷ []) ++ replicate 7 0
+  pub rowsMixed : rowsTo mixed ≡ (1 ∷ 2 ∷ 1 ∷ 126_500 ∷ 4 ∷ 1 ∷ 3 ∷ []) ++ (1 ∷ 4 ∷ 1 ∷ 20_000 ∷ 1 ∷ 0 ∷ 0 ∷ [])
+  pub dayConcentration : getD (workAfter concentrationCells outfall 14 mostHours mostHours (replicate mostHours 0)) 0 0 ≡ 2000
+  pub dayFlow : getD (workAfter flowCells outfall 14 mostHours mostHours (replicate mostHours 0)) 0 0 ≡ 1000
   pub concentration : getD (workAfter concentrationCells example 14 mostHours mostHours (replicate mostHours 0)) 0 0 ≡ 2000
   pub flow : getD (workAfter flowCells example 14 mostHours mostHours (replicate mostHours 0)) 0 0 ≡ 1000000
 
 pub given-all : GivenAll
-unfolding example second two rules
+unfolding example second two outfall dirtier mixed rules
 given-all =
     record {
       ofExample = record { number = refl; rows = refl };
@@ -93,6 +118,14 @@ given-all =
       rowExample = refl;
       rowSecond = refl;
       rowsTwo = refl;
+      ofOutfall = record { number = refl; rows = refl };
+      ofDirtier = record { number = refl; rows = refl };
+      ofMixed = record { number = refl; rows = refl };
+      rowOutfall = refl;
+      rowDirtier = refl;
+      rowsMixed = refl;
+      dayConcentration = refl;
+      dayFlow = refl;
       concentration = refl;
       flow = refl;
     }

@@ -91,8 +91,8 @@ not-head h =
     differ _ _ _ _ (two-is .nextHead) (two-is .firstHead) (omega arith) (ap (λ (x : Head). x .stack) e)
 
 -- nothing written
-not-unwritten : ((v : Version) → Keeps v → (a : Taken v 1) → v (a .call) .rows ≡ a .call .rows) → ⊥
-not-unwritten h = let w = demands .two resultOf (λ c l. kept c) .writes in w .1 (h resultOf (λ c l. kept c) (w .0))
+not-unwritten : ((v : Version) → Keeps v → (a : Taken v 2 1) → v (a .call) .rows ≡ a .call .rows) → ⊥
+not-unwritten h = let w = demands .two resultOf (λ c l. kept c) .0 .writes in w .1 (h resultOf (λ c l. kept c) (w .0))
 
 -- demand 3 alone claimed to shut out what refuses everything
 not-alone : ((v : Version) → RefusesAll v → EveryRowNear v → ⊥) → ⊥

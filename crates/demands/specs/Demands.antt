@@ -1,13 +1,13 @@
 -- What is proved of this program, on one page: statements only. `demands` and `code` of proofs/Demands.antt prove the two records at the end.
 use Prim.Native.Nat.{ℕ, _+_, _-_, _*_, _/_, _^_, _≤_, _<_}
-use mathlib.Core.{Bool.Bool, Bool.true, Bool.false, List.List, List._∷_, List._++_, Logic._↔_, Path._≡_}
+use mathlib.Core.{Bool.Bool, Bool.true, Bool.false, List.List, List._∷_, List._++_, Logic._↔_, Logic._⊎_, Path._≡_}
 use lib.{ListN.length, ListN.take, ListN.drop, ListN.getD, Ieee.Exact.HasValue}
 use denote.Ref.{RefT, ptr, now}
 use Rattle.law.specs.Numbers.{mostHours, rowCells}
 use Rattle.reading.specs.{declared.Hour.Hour, Reading.reading, Reading.allowed, Reading.exact}
-use Rattle.rules.specs.{declared.Head.Head, declared.Answer.Answer, Hours.lacking, Lines.StackLine, Outfalls.Line, Outfalls.OfStack, Outfalls.headOfLine, Lines.surveyed, Lines.daysAfter, Alone.noneMissing, Alone.daysAlone, Grams.gramsOf, Row.rowOf, Walk.Accepted, Walk.outcome, Account.Promise}
+use Rattle.rules.specs.{declared.Head.Head, declared.Answer.Answer, Hours.lacking, Lines.StackLine, Outfalls.OutfallLine, Outfalls.Line, Outfalls.OfStack, Measured.Measured, Grams.automatic, Grams.manual, Outfalls.headOfLine, Lines.surveyed, Lines.daysAfter, Alone.noneMissing, Alone.daysAlone, Grams.gramsOf, Row.rowOf, Walk.Accepted, Walk.outcome, Account.Promise}
 use Rattle.answers.specs.{Heads.headsOf, Places.ofField, Places.PointsAt}
-use Rattle.allowance.specs.Allowance.{Near}
+use Rattle.allowance.specs.Allowance.{Filling, inAir, inWater, AutomaticNear, ManualNear, StackNear, OutfallNear, Near}
 use Rattle.panel.specs.{Lawful.asTotal, Panel.emptyPanel, Runs.after, Runs.products, Runs.missingHours, Runs.NoneRefused, Runs.NoneBad}
 use Rattle.survey.specs.Governing.{isSurvey, part, here, governing}
 use Rattle.quarter.proofs.account.Statement.{statement as accountMeets}
@@ -39,23 +39,24 @@ Version = Call → Result
 abbrev pub Keeps : Version → Type 0
 Keeps v = (c : Call) → Lent c → Kept c (v c)
 
--- a call that can be made, which a version accepts with so many rows; and the grams of the i-th row
-pub record Taken (v : Version) (rows : ℕ) : Type 0 where
+-- a call that can be made, which a version accepts with so many rows, the last of them of this pollutant; and the grams of the i-th row
+pub record Taken (v : Version) (pollutant rows : ℕ) : Type 0 where
   pub call : Call
   pub lent : Lent call
   pub number : v call .answer .number ≡ 0
   pub count : v call .answer .rows ≡ rows
+  pub of : getD (v call .rows) (rowCells * (rows - 1) + 1) 0 ≡ pollutant
 
 abbrev pub gramsIn : Result → ℕ → ℕ
 gramsIn r i = getD (r .rows) (rowCells * i + 3) 0
 
 -- the four versions that have to be shut out, by what each does not do: accept a file ("refuses everything"); give two files other grams ("the same grams for
 -- all files"); change rows and both work tables ("writes nothing"); give a second line other grams ("the first line and copies it for the rest")
-pub record NoneOfFour (v : Version) : Type 0 where
-  pub accepts : Taken v 1
-  pub grams : (a b : Taken v 1) × (gramsIn (v (a .call)) 0 ≡ gramsIn (v (b .call)) 0 → ⊥)
-  pub writes : (a : Taken v 1) × (v (a .call) .rows ≡ a .call .rows → ⊥) × (v (a .call) .concentrations ≡ a .call .concentrations → ⊥) × (v (a .call) .flows ≡ a .call .flows → ⊥)
-  pub lines : (a : Taken v 2) × (gramsIn (v (a .call)) 1 ≡ gramsIn (v (a .call)) 0 → ⊥)
+pub record NoneOfFour (v : Version) (pollutant : ℕ) : Type 0 where
+  pub accepts : Taken v pollutant 1
+  pub grams : (a b : Taken v pollutant 1) × (gramsIn (v (a .call)) 0 ≡ gramsIn (v (b .call)) 0 → ⊥)
+  pub writes : (a : Taken v pollutant 1) × (v (a .call) .rows ≡ a .call .rows → ⊥) × (v (a .call) .concentrations ≡ a .call .concentrations → ⊥) × (v (a .call) .flows ≡ a .call .flows → ⊥)
+  pub lines : (a : Taken v pollutant 2) × (gramsIn (v (a .call)) 1 ≡ gramsIn (v (a .call)) 0 → ⊥)
 
 -- row i is the row of the file's i-th line, which its i-th head opens (of `lines` the newest stands first), and the grams are near the exact figure
 pub record RowNear (file : List ℕ) (lines : List Line) (rows : List ℕ) (i : ℕ) : Type 0 where
@@ -100,10 +101,16 @@ pub record Governs (e p : RefT (List ℕ)) (hour : ℕ) : Type 0 where
 pub record Demands : Type 0 where
   -- DEMAND 1: every call, of any lists whatever, has one result that keeps the promise, and no second
   pub one : (c : Call) → (r : Result) × Kept c r × ((s : Result) → Kept c s → s ≡ r)
-  -- DEMAND 2: who keeps the promise is none of the four
-  pub two : (v : Version) → Keeps v → NoneOfFour v
+  -- DEMAND 2: who keeps the promise is none of the four, by lines of a stack (nitrogen oxides, 2) and by lines of an outfall (chemical oxygen demand, 4)
+  pub two : (v : Version) → Keeps v → NoneOfFour v 2 × NoneOfFour v 4
   -- DEMAND 3: who keeps the promise states every row within its allowance
   pub three : (v : Version) → Keeps v → EveryRowNear v
+  -- DEMAND 3 OVER THE SCALE: with any number of units to a gram, and missing hours filled or missing days not, what the methods by readings state is within
+  -- the allowance of the exact figure; a line of a stack and a line of an outfall are its instances, by 100,000 units and by 100
+  pub scale : (f : Filling) → (f ≡ inAir) ⊎ (f ≡ inWater) → (m : Measured) → 0 < m .units
+      → AutomaticNear f m (automatic (f .values) m) × (0 < length (m .surveys) → ManualNear m (manual m))
+  pub air : (x : StackLine) → StackNear x
+  pub water : (x : OutfallLine) → OutfallNear x
   -- demand 3 alone lets every version through that refuses everything, and there is one; demand 2 lets none through
   pub alone : ((v : Version) × RefusesAll v) × ((v : Version) → RefusesAll v → EveryRowNear v × (Keeps v → ⊥))
   -- WHICH FIELD (A1): no call is refused with 3; 4 and 14 to 17 point at the first field of the refused record that is out of range (read `PointsAt`)

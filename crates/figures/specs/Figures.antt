@@ -3,7 +3,7 @@
 use Prim.Native.Nat.{ℕ}
 use mathlib.Core.List.{List, [], _∷_, map}
 use mathlib.Core.Path.{_≡_}
-use lib.ListN.{replicate}
+use lib.ListN.{length, replicate}
 use Rattle.law.specs.Numbers.{hoursOfDay}
 use Rattle.law.specs.Words.{pick}
 use Rattle.reading.specs.declared.Rounded.{Rounded}
@@ -13,11 +13,12 @@ use Rattle.rules.specs.declared.Head.{Head}
 use Rattle.rules.specs.declared.Pair.{Pair}
 use Rattle.rules.specs.declared.Survey.{Survey}
 use Rattle.rules.specs.declared.Batch.{Batch}
+use Rattle.rules.specs.declared.WaterDay.{WaterDay}
 use Rattle.rules.specs.Hours.{runningOf, missingOf}
 use Rattle.rules.specs.Lines.{StackLine}
 use Rattle.rules.specs.Method.{isAutomatic, method}
 use Rattle.rules.specs.Tables.{coefficientsOf}
-use Rattle.rules.specs.Grams.{fuelGrams}
+use Rattle.rules.specs.Grams.{fuelGrams, outfallGrams}
 
 -- a figure: a number, or that it is refused
 pub data Figure : Type 0 where
@@ -74,6 +75,15 @@ dayLine run measured enforcement plant =
 unfoldable pub methodRow : StackLine → ℕ → Row
 methodRow x f = record { computed = Gives (method x); agreed = Gives f }
 
+-- a day of an outfall by its state, its concentration and its flow
+unfoldable pub waterDay : ℕ → ℕ → ℕ → ℕ → WaterDay
+waterDay day state concentration flow = record { day = day; state = state; pair = pair concentration flow }
+
+-- the grams of a line of an outfall with these days, the newest first, and these enforcement surveys
+unfoldable pub outfallRow : List WaterDay → List Survey → ℕ → Row
+outfallRow days enforcement f =
+    record { computed = Gives (outfallGrams (record { head = record { outfall = 1; pollutant = 4; days = length days }; days = days; enforcement = enforcement; plant = [] })); agreed = Gives f }
+
 -- 1,000,000 kg
 unfoldable pub batch : ℕ → ℕ → Batch
 batch sulphur ash = record { kg = 1_000_000; sulphur = sulphur; ash = ash }
@@ -96,6 +106,8 @@ figures =
     ∷ quarterRow 0b111 0b011 0  -- three with one missing don't
     ∷ methodRow (dayLine 0b111 0b011 (survey 2 ∷ []) []) 1  -- "three running hours, one missing with a survey, is automatic" (A2)
     ∷ methodRow (dayLine 0b111 0b011 [] (survey 2 ∷ [])) 1  -- the same by a plant survey
+    ∷ outfallRow (waterDay 0 2 0x41a00000 0x447a0000 ∷ []) [] 20_000  -- a day of 20 mg/L and 1,000 m3 (A3)
+    ∷ outfallRow (waterDay 1 1 0 0 ∷ waterDay 0 2 0x41a00000 0x447a0000 ∷ []) (survey 0 ∷ []) 6_000  -- one of two days missing: the other's survey, 30 mg/L and 100 m3, for both
     ∷ fuelRow (boiler 1 300) (batch 80 0 ∷ []) 14_184_000
     ∷ fuelRow (boiler 1 300) (batch 100 0 ∷ batch 80 0 ∷ []) 35_460_000
     ∷ fuelRow (boiler 2 450) (batch 0 0 ∷ []) 7_950_000

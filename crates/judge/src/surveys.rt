@@ -64,8 +64,5 @@ pub fn judge_enforcement(v: View, runs: &[u32], s: Survey) -> Fault
 pub fn judge_plant(v: View, runs: &[u32], s: Survey) -> Fault
     ensures { λ f. ⌜ f ≡ first (placePlant (v .inside) v s) (judgeSurvey v (now (runs .entry)) s) ⌝ }
 {
-    first_of(
-        place_plant(v.inside, v, s),
-        judge_survey(v, runs, s),
-    )
+    first_of(place_plant(v.inside, v, s), judge_survey(v, runs, s))
 }

@@ -1,18 +1,22 @@
 -- The days of an outfall's line: what a day and a survey do to them and to their counts; and which surveys speak, of either world. Assumes nothing.
 use mathlib.Core.Path.{_≡_, refl, _∙_, ap, ap₂}
 use mathlib.Core.Bool.{Bool, true, false}
-use mathlib.Core.List.{List, [], _∷_, _++_}
+use mathlib.Core.List.{List, [], _∷_, _++_, map, reverse}
 use Prim.Native.Nat.{ℕ, zero, suc, _+_, _-_, _<_, _≤_}
 use native.Mathlib.Omega.{arith}
-use lib.ListN.{length, getD, set, length-append, length-set}
+use lib.ListN.{length, getD, set, take, drop, length-append, length-set, length-map, List·getD-map}
 use lib.Dec.{eqb}
 use Rattle.law.specs.Words.{pick, sumOf, seek}
 use Rattle.rules.specs.declared.Pair.{Pair}
 use Rattle.rules.specs.declared.Survey.{Survey}
 use Rattle.rules.specs.declared.WaterDay.{WaterDay}
-use Rattle.rules.specs.Slots.{Slot, valid, missing, stopped, runs, lacks, runningIn, missingIn, firstMissingIn}
+use Rattle.rules.specs.Slots.{Slot, valid, missing, stopped, runs, lacks, runningIn, missingIn, firstMissingIn, mapSlot, entry}
 use Rattle.rules.specs.Lines.{hasSurvey, besides, speaking}
-use Rattle.rules.specs.Outfalls.{OutfallLine, dayOfOutfall, daysInTurn, putOnDays, surveyedDays, outfallDays}
+use Rattle.rules.specs.Outfalls.{OutfallLine, dayOfOutfall, daysInTurn, putOnDays, surveyedDays, outfallDays, OfOutfall}
+use Rattle.rules.specs.Fill.{Values, zeroes, unfilled}
+use Rattle.rules.specs.Grams.{valuesOf, slots, hourly}
+use Rattle.rules.specs.Row.{held}
+use Rattle.rules.proofs.Slots.{line-at}
 use Rattle.rules.specs.Walk.{withWaterDay}
 
 -- ---- which surveys speak when one more comes
@@ -132,3 +136,12 @@ module _ (x : OutfallLine) (d : WaterDay) (e : x .enforcement ≡ []) (q : x .pl
   pub days-behind : outfallDays (withWaterDay x d) ≡ outfallDays x ++ (dayOfOutfall d ∷ [])
   unfolding outfallDays surveyedDays besides putOnDays daysInTurn withWaterDay
   days-behind = rw (e, q)
+
+-- "no day is filled": a missing day holds nothing
+pub not-filled : (x : OutfallLine) (d : ℕ) → d < length (outfallDays x) → getD (outfallDays x) d stopped ≡ missing → getD (held (OfOutfall x)) d zeroes ≡ zeroes
+unfolding held hourly slots mapSlot entry unfilled
+not-filled x d l e =
+    let s = map (mapSlot valuesOf) (outfallDays x) in
+    let n : d < length s = omega (arith, l, length-map (outfallDays x) (mapSlot valuesOf)) in
+    line-at (λ v. v) unfilled zeroes s d zeroes n
+    ∙ ap (λ (o : Slot Values). entry (λ v. v) unfilled zeroes (reverse (take d s)) o (drop (d + 1) s)) (List·getD-map (mapSlot valuesOf) (outfallDays x) d stopped ∙ ap (mapSlot valuesOf) e)

@@ -475,34 +475,38 @@ module _ (bytes : List ℕ) (v : View) (s : Sums) (o : Open) (d : Done) where
       → (u .fault ≡ fine) × Kept (taken stand bytes (OfWater w)) (u .view) (u .sums) (afterWater runs' states' flags' conc' flow') d
   unfolding taken takenBetween takenInWater waterBetween waterInside viewOf asHead
   kept-by-water stand r (OfOutfallHead h) runs' states' flags' conc' flow' u q k (e, er, es) =
-      let ok = outfall-ok v (runsOf stand) h (judged stand r (OfWater (OfOutfallHead h)) q k) in
-      (e .faults,
-      subst₂ (λ (a b : List ℕ). Kept (taken stand bytes (OfWater (OfOutfallHead h))) (u .view) (u .sums) (afterWater a b flags' conc' flow') d) (sym er) (sym es)
-      (between-lines stand v (k .kept .view) (ok .outside) (λ a. Kept a v s o d → Kept (taken a bytes (OfWater (OfOutfallHead h))) (u .view) (u .sums) (afterWater (o .runs) (o .states) flags' conc' flow') d)
-      (λ done y. kept-outfall done v s h o d flags' conc' flow' u y (ok .days-most) (omega (arith, ok .pollutant-least), ok .pollutant-most) (lines-left done v (y .view) (ok .room)) e) (k .kept)))
+      let ok = outfall-ok v (runsOf stand) h (judged stand r (OfWater (OfOutfallHead h)) q k) in (
+        e .faults,
+        subst₂ (λ (a b : List ℕ). Kept (taken stand bytes (OfWater (OfOutfallHead h))) (u .view) (u .sums) (afterWater a b flags' conc' flow') d) (sym er) (sym es)
+            (between-lines stand v (k .kept .view) (ok .outside) (λ a. Kept a v s o d → Kept (taken a bytes (OfWater (OfOutfallHead h))) (u .view) (u .sums) (afterWater (o .runs) (o .states) flags' conc' flow') d)
+            (λ done y. kept-outfall done v s h o d flags' conc' flow' u y (ok .days-most) (omega (arith, ok .pollutant-least), ok .pollutant-most) (lines-left done v (y .view) (ok .room)) e) (k .kept)),
+      )
   kept-by-water stand r (OfOutfallDay t) runs' states' flags' conc' flow' u q k (e, ef) =
-      let ok = water-day-ok v (runsOf stand) t (judged stand r (OfWater (OfOutfallDay t)) q k) in
-      (e .faults,
-      subst (λ (a : List ℕ). Kept (taken stand bytes (OfWater (OfOutfallDay t))) (u .view) (u .sums) (afterWater runs' states' a conc' flow') d) (sym ef)
-      (in-water stand v (k .kept .view) (ok .inside) (λ a. Kept a v s o d → Kept (taken a bytes (OfWater (OfOutfallDay t))) (u .view) (u .sums) (afterWater runs' states' (o .flags) conc' flow') d)
-      (λ x done y. kept-water-day x done v s t o d runs' states' conc' flow' u y (omega (arith, ok .room, ap (λ (w : View). w .days) (y .view), ap (λ (w : View). w .head .days) (y .view))) (ok .turn ∙ ap (λ (w : View). w .days) (y .view)) (ok .fields) e) (k .kept)))
+      let ok = water-day-ok v (runsOf stand) t (judged stand r (OfWater (OfOutfallDay t)) q k) in (
+        e .faults,
+        subst (λ (a : List ℕ). Kept (taken stand bytes (OfWater (OfOutfallDay t))) (u .view) (u .sums) (afterWater runs' states' a conc' flow') d) (sym ef)
+            (in-water stand v (k .kept .view) (ok .inside) (λ a. Kept a v s o d → Kept (taken a bytes (OfWater (OfOutfallDay t))) (u .view) (u .sums) (afterWater runs' states' (o .flags) conc' flow') d)
+            (λ x done y. kept-water-day x done v s t o d runs' states' conc' flow' u y (omega (arith, ok .room, ap (λ (w : View). w .days) (y .view), ap (λ (w : View). w .head .days) (y .view))) (ok .turn ∙ ap (λ (w : View). w .days) (y .view)) (ok .fields) e) (k .kept)),
+      )
   kept-by-water stand r (OfOutfallEnforcement t) runs' states' flags' conc' flow' u q k (e, er) =
-      let ok = day-enforcement-ok v (runsOf stand) t (judged stand r (OfWater (OfOutfallEnforcement t)) q k) in
-      (e .faults,
-      subst (λ (a : List ℕ). Kept (taken stand bytes (OfWater (OfOutfallEnforcement t))) (u .view) (u .sums) (afterWater a states' flags' conc' flow') d) (sym er)
-      (in-water stand v (k .kept .view) (ok .1 .inside) (λ a. Kept a v s o d → Kept (taken a bytes (OfWater (OfOutfallEnforcement t))) (u .view) (u .sums) (afterWater (o .runs) states' flags' conc' flow') d)
-      (λ x done y.
-      let f = day-survey-facts x done t (y .view) (ok .1) in
-      kept-day-enforcement x done v s t o d y (f .day) (f .all-days) (f .room) (f .pair) states' flags' conc' flow' u
-      (empty-of (x .plant) (sym (survey-count (x .plant)) ∙ sym (ap (λ (w : View). w .plant .count) (y .view)) ∙ ok .0)) e) (k .kept)))
+      let ok = day-enforcement-ok v (runsOf stand) t (judged stand r (OfWater (OfOutfallEnforcement t)) q k) in (
+        e .faults,
+        subst (λ (a : List ℕ). Kept (taken stand bytes (OfWater (OfOutfallEnforcement t))) (u .view) (u .sums) (afterWater a states' flags' conc' flow') d) (sym er)
+            (in-water stand v (k .kept .view) (ok .1 .inside) (λ a. Kept a v s o d → Kept (taken a bytes (OfWater (OfOutfallEnforcement t))) (u .view) (u .sums) (afterWater (o .runs) states' flags' conc' flow') d)
+            (λ x done y.
+            let f = day-survey-facts x done t (y .view) (ok .1) in
+            kept-day-enforcement x done v s t o d y (f .day) (f .all-days) (f .room) (f .pair) states' flags' conc' flow' u
+            (empty-of (x .plant) (sym (survey-count (x .plant)) ∙ sym (ap (λ (w : View). w .plant .count) (y .view)) ∙ ok .0)) e) (k .kept)),
+      )
   kept-by-water stand r (OfOutfallPlant t) runs' states' flags' conc' flow' u q k (e, er, ef) =
-      let ok = day-plant-ok v (runsOf stand) t (judged stand r (OfWater (OfOutfallPlant t)) q k) in
-      (e .faults,
-      subst₂ (λ (a b : List ℕ). Kept (taken stand bytes (OfWater (OfOutfallPlant t))) (u .view) (u .sums) (afterWater a states' b conc' flow') d) (sym er) (sym ef)
-      (in-water stand v (k .kept .view) (ok .inside) (λ a. Kept a v s o d → Kept (taken a bytes (OfWater (OfOutfallPlant t))) (u .view) (u .sums) (afterWater (o .runs) states' (o .flags) conc' flow') d)
-      (λ x done y.
-      let f = day-survey-facts x done t (y .view) ok in
-      kept-day-plant x done v s t o d y (f .day) (f .all-days) (f .room) (f .pair) states' conc' flow' u e) (k .kept)))
+      let ok = day-plant-ok v (runsOf stand) t (judged stand r (OfWater (OfOutfallPlant t)) q k) in (
+        e .faults,
+        subst₂ (λ (a b : List ℕ). Kept (taken stand bytes (OfWater (OfOutfallPlant t))) (u .view) (u .sums) (afterWater a states' b conc' flow') d) (sym er) (sym ef)
+            (in-water stand v (k .kept .view) (ok .inside) (λ a. Kept a v s o d → Kept (taken a bytes (OfWater (OfOutfallPlant t))) (u .view) (u .sums) (afterWater (o .runs) states' (o .flags) conc' flow') d)
+            (λ x done y.
+            let f = day-survey-facts x done t (y .view) ok in
+            kept-day-plant x done v s t o d y (f .day) (f .all-days) (f .room) (f .pair) states' conc' flow' u e) (k .kept)),
+      )
 
   pub took-water : (stand : Stand) (r : Record) (w : Water) (runs' states' flags' conc' flow' : List ℕ) (u : Taken) → r ≡ OfWater w → Ready stand bytes r v s o d
       → WaterTaken w v s (o .runs) (o .states) (o .flags) (o .concentrations) (o .flows) runs' states' flags' conc' flow' u → Took stand bytes r u (afterWater runs' states' flags' conc' flow') d

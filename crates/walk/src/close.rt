@@ -45,6 +45,7 @@ fn period_weight(conc: &[u32], flow: &[u32], n: usize) -> u64
 
 // Half of what a gram is in units of c x l: of a stack 100,000, of an outfall 100.
 const HALF: u64 = 50_000;
+
 const HALF_OF_WATER: u64 = 50;
 
 // The sum of c x l over n hours or days and the units of a gram, halves up: half of the divisor is added first, so that nothing is doubled.
