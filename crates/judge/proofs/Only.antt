@@ -5,10 +5,13 @@ use Prim.Native.Nat.{ℕ}
 use Rattle.rules.specs.declared.Fault.{Fault}
 use Rattle.rules.specs.declared.Record.{Record}
 use Rattle.rules.specs.declared.View.{View}
-use Rattle.rules.specs.Judge.{lineMethod, judgeRecord}
+use Rattle.rules.specs.Judge.{lineMethod, dailyMethod, judgeRecord}
 
 pub judge-record : (v : View) (runs : List ℕ) (r : Record) (f g : Fault) → f ≡ judgeRecord v runs r → g ≡ judgeRecord v runs r → f ≡ g
 judge-record v runs r f g p q = cc
 
 pub line-method : (v : View) (m n : ℕ) → m ≡ lineMethod v → n ≡ lineMethod v → m ≡ n
 line-method v m n p q = cc
+
+pub daily-method : (v : View) (m n : ℕ) → m ≡ dailyMethod v → n ≡ dailyMethod v → m ≡ n
+daily-method v m n p q = cc

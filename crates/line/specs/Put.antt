@@ -36,6 +36,13 @@ standing c l found = record { count = 1; weight = c * l; found = found }
 abbrev pub nothing : Weighed
 nothing = record { count = 0; weight = 0; found = 0 }
 
+-- a survey that stands, at its hour or day, where so many that were missing are found: measured, with its values, and weighed
+pub record Placed (t : Survey) (found : ℕ) (states conc flow states' conc' flow' : List ℕ) (r : Weighed) : Type 0 where
+  pub weighs : r ≡ standing (surveyC t) (surveyL t) found
+  pub statesNow : states' ≡ set states (t .hour) 2
+  pub concNow : conc' ≡ set conc (t .hour) (surveyC t)
+  pub flowNow : flow' ≡ set flow (t .hour) (surveyL t)
+
 -- the tables with hour h measured, with two values
 abbrev pub measuredAt : ℕ → ℕ → ℕ → Tables → Tables
 measuredAt h c l o = inTables (withMeasured h (o .measured)) (set (o .states) h 2) (set (o .concentrations) h c) (set (o .flows) h l)

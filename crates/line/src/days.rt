@@ -1,10 +1,8 @@
 // A survey put in at its day of an outfall's line, and weighed; the first missing day.
-use crate::marked::mark_state;
-use crate::marked::put_cell;
-use crate::product;
 use crate::surveyed::Weighed;
 use crate::surveyed::is_flagged;
 use crate::surveyed::none_added;
+use crate::surveyed::place;
 use rules::Survey;
 ghost use mathlib.Core.Path.{_≡_};
 ghost use Rattle.line.specs.Put.{beats};
@@ -37,21 +35,12 @@ pub fn first_missing_day(states: &[u8], days: u8) -> u32
     0
 }
 
-// A survey that stands: rounded, its day measured with its readings, missing or not, and weighed.
+// A survey that stands: its day, missing or not, is measured.
 pub fn put_on_day(t: Survey, states: &mut [u8], conc: &mut [u32], flow: &mut [u32]) -> Weighed
     ensures { λ r. ⌜ DayPut t (now (states .entry)) (now (conc .entry)) (now (flow .entry)) (now (states .exit)) (now (conc .exit)) (now (flow .exit)) r ⌝ }
 {
-    let p = t.pair;
-    let f = reading::flagged_pair(p.concentration, p.flow);
     let found = lacks_day(states, t.hour as usize);
-    mark_state(t.hour, states);
-    put_cell(t.hour, f.concentration, conc);
-    put_cell(t.hour, f.flow, flow);
-    Weighed {
-        count: 1,
-        weight: product(f.concentration, f.flow),
-        found,
-    }
+    place(t, found, states, conc, flow)
 }
 
 // "Surveys act on days as on hours": where an enforcement survey stands a plant survey changes nothing and weighs nothing.

@@ -1,10 +1,10 @@
-// A survey put in at its hour of a line's period, and weighed.
+// A survey put in at its hour of a line's period, and weighed; what it does to its hour, or to its day of an outfall.
 use crate::marked::mark_state;
 use crate::marked::put_cell;
 use crate::product;
 use rules::Survey;
 ghost use mathlib.Core.Path.{_≡_};
-ghost use Rattle.line.specs.Put.{inTables, nothing, beats, SurveyPut, PlantPut};
+ghost use Rattle.line.specs.Put.{inTables, nothing, beats, Placed, SurveyPut, PlantPut};
 
 // What a survey adds to those of a line: one hour and its c x l, or nothing; and how many missing hours fewer the line has.
 pub struct Weighed {
@@ -13,7 +13,29 @@ pub struct Weighed {
     pub found: u32,
 }
 
-// A survey that stands: rounded, its hour measured with its readings, missing or not, and weighed.
+// A survey that stands, at its hour or day: rounded, measured with its readings, and weighed.
+pub fn place(
+    t: Survey,
+    found: u32,
+    states: &mut [u8],
+    conc: &mut [u32],
+    flow: &mut [u32],
+) -> Weighed
+    ensures { λ r. ⌜ Placed t found (now (states .entry)) (now (conc .entry)) (now (flow .entry)) (now (states .exit)) (now (conc .exit)) (now (flow .exit)) r ⌝ }
+{
+    let p = t.pair;
+    let f = reading::flagged_pair(p.concentration, p.flow);
+    mark_state(t.hour, states);
+    put_cell(t.hour, f.concentration, conc);
+    put_cell(t.hour, f.flow, flow);
+    Weighed {
+        count: 1,
+        weight: product(f.concentration, f.flow),
+        found,
+    }
+}
+
+// Its hour, missing or not, has its bit in the measured mask of its day.
 pub fn put_survey(
     t: Survey,
     runs: &[u32],
@@ -25,17 +47,8 @@ pub fn put_survey(
     ensures { λ r. ⌜ SurveyPut t (now (runs .entry)) (inTables (now (measured .entry)) (now (states .entry)) (now (conc .entry)) (now (flow .entry)))
         (inTables (now (measured .exit)) (now (states .exit)) (now (conc .exit)) (now (flow .exit))) r ⌝ }
 {
-    let p = t.pair;
-    let f = reading::flagged_pair(p.concentration, p.flow);
     let found = hours::mark_measured(runs, measured, t.hour);
-    mark_state(t.hour, states);
-    put_cell(t.hour, f.concentration, conc);
-    put_cell(t.hour, f.flow, flow);
-    Weighed {
-        count: 1,
-        weight: product(f.concentration, f.flow),
-        found,
-    }
+    place(t, found, states, conc, flow)
 }
 
 // Whether an hour has an enforcement survey; past the quarter none has.

@@ -1,5 +1,5 @@
 -- What the calls at the end of a line leave, put together. Assumes nothing.
-use mathlib.Core.Path.{_≡_, refl, _∙_, sym, ap, ap₂, subst}
+use mathlib.Core.Path.{_≡_, refl, _∙_, sym, ap, ap₂, subst, subst₂}
 use mathlib.Core.List.{List}
 use Prim.Native.Nat.{ℕ, _+_, _-_, _*_, _^_, _≤_, _<_}
 use native.Mathlib.Nat.{mul-le-mul, mul-le-mul-right, mul-assoc, mul-comm}
@@ -15,7 +15,7 @@ use mathlib.Core.Bool.{Bool, true, false}
 use borrow.Author.Tests.{eqb-true, eqb-false}
 use Rattle.rules.specs.declared.View.{View}
 use Rattle.walk.specs.declared.books.Sums.{Sums}
-use Rattle.walk.specs.Taking.{EndReady, EndTaken, WaterEndReady}
+use Rattle.walk.specs.Taking.{LineStated, EndReady, EndTaken, WaterEndReady}
 use Rattle.hours.specs.States.{stateAt, periodStates}
 use Rattle.rules.specs.Hours.{firstMissing}
 use Rattle.line.specs.Line.{rowIn}
@@ -170,25 +170,14 @@ module _ (v : View) (s : Sums) (runs measured states conc flow conc' flow' : Lis
       line-is q r = line-by (eqb m 1) (eqb m 2) refl refl q r
 
   -- ---- the end of a line, put together
-  pub end-taken : (d d' : Done) (r : Taken) (m first : ℕ) → m ≡ lineMethod v → figures m → d' .rows ≡ putFrom (λ k. getD (rowIn v m g first) k 0) rowCells (rowCells * v .lines) (d .rows)
-      → d' .totals ≡ withGrams (d .totals) (v .head .pollutant) g → r .fault ≡ fine → r .view ≡ afterEnd v → r .sums ≡ s
+  pub end-taken : (d d' : Done) (r : Taken) (m first : ℕ) → m ≡ lineMethod v → figures m → LineStated v s (lineMethod v) g first d d' r
       → EndTaken v s (periodStates runs measured (v .head .days)) first conc flow d conc' flow' d' r
-  end-taken d d' r m first q l o t a b c =
-      record {
-        grams = g;
-        small = line-small m q l;
-        figures = subst figures q l;
-        faults = a;
-        view = b;
-        sums = c;
-        rowsNow = o ∙ ap (λ (k : ℕ). putFrom (λ i. getD (rowIn v k g first) i 0) rowCells (rowCells * v .lines) (d .rows)) q;
-        totalsNow = t;
-      }
+  end-taken d d' r m first q l t = record { grams = g; small = line-small m q l; figures = subst figures q l; stated = t }
 
--- ---- a row by the method and the first missing day that were found
-pub row-by : (v : View) (g : ℕ) (rows : List ℕ) {m m' first first' : ℕ} → m ≡ m' → first ≡ first'
-    → putFrom (λ k. getD (rowIn v m g first) k 0) rowCells (rowCells * v .lines) rows ≡ putFrom (λ k. getD (rowIn v m' g first') k 0) rowCells (rowCells * v .lines) rows
-row-by v g rows p q = ap₂ (λ (i j : ℕ). putFrom (λ k. getD (rowIn v i g j) k 0) rowCells (rowCells * v .lines) rows) p q
+-- ---- a line is stated by the method and the first missing hour or day that were found
+pub stated-by : (v : View) (s : Sums) (g : ℕ) {d d' : Done} {r : Taken} {m m' first first' : ℕ} → m ≡ m' → first ≡ first' → LineStated v s m g first d d' r
+    → LineStated v s m' g first' d d' r
+stated-by v s g {d} {d'} {r} p q t = subst₂ (λ (i j : ℕ). LineStated v s i g j d d' r) p q t
 
 pub figure-by : (v : View) (s : Sums) (conc flow : List ℕ) (m g : ℕ) → m ≡ dailyMethod v → g ≡ dailyGrams m v s conc flow → g ≡ dailyGrams (dailyMethod v) v s conc flow
 figure-by v s conc flow m g q e = e ∙ ap (λ (i : ℕ). dailyGrams i v s conc flow) q

@@ -263,13 +263,13 @@ module _ (x : StackLine) (done : List Line) (v : View) (s : Sums) (o : Open) (d 
       kept-end =
           let c = shut .concentrations in
           let l = shut .flows in
-          let used : r .sums .used ≡ hoursOfDay * x .head .days = ap (λ (u : Sums). u .used) (e .sums) ∙ k .books .used in
+          let used : r .sums .used ≡ hoursOfDay * x .head .days = ap (λ (u : Sums). u .used) (e .stated .sums) ∙ k .books .used in
           record {
-            view = e .view ∙ ap afterEnd (k .view) ∙ view-end x done;
+            view = e .stated .view ∙ ap afterEnd (k .view) ∙ view-end x done;
             lines = omega (arith, k .lines);
             done =
                 done-more (OfStack x) done v d d' (lineMethod v) (e .grams) lineFirst (k .done) (omega (arith, k .lines)) v-lines (v-pollutant ∙ refl)
-                (omega (arith, v-pollutant, k .books .pollutant), omega (arith, v-pollutant, k .books .pollutant)) row-is (shut .figure) (e .small) (e .rowsNow) (e .totalsNow);
+                (omega (arith, v-pollutant, k .books .pollutant), omega (arith, v-pollutant, k .books .pollutant)) row-is (shut .figure) (e .small) (e .stated .rowsNow) (e .stated .totalsNow);
             long =
                 record {
                   runs = k .long .runs;

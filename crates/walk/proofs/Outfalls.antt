@@ -230,14 +230,14 @@ module _ (x : OutfallLine) (done : List Line) (v : View) (s : Sums) (o : Open) (
     unfolding rowOf gramsOf headOfLine asHead held concentrationCells flowCells cs ls
     kept-water-end =
         let cl = days-cells x (k .books) in
-        let used : r .sums .used ≡ x .head .days = ap (λ (u : Sums). u .used) (e .sums) ∙ k .books .used in
+        let used : r .sums .used ≡ x .head .days = ap (λ (u : Sums). u .used) (e .stated .sums) ∙ k .books .used in
         let p : v .head .pollutant ≡ x .head .pollutant = ap (λ (h : Head). h .pollutant) v-head in
         record {
-          view = e .view ∙ ap afterEnd (k .view) ∙ view-water-end x done;
+          view = e .stated .view ∙ ap afterEnd (k .view) ∙ view-water-end x done;
           lines = omega (arith, k .lines);
           done =
               done-more (OfOutfall x) done v d d' (dailyMethod v) (e .grams) (firstLacking (o .states) (v .head .days)) (k .done) (omega (arith, k .lines)) v-lines p
-              (omega (arith, p, k .books .pollutant), omega (arith, p, k .books .pollutant)) row-is figure-is (e .small) (e .rowsNow) (e .totalsNow);
+              (omega (arith, p, k .books .pollutant), omega (arith, p, k .books .pollutant)) row-is figure-is (e .small) (e .stated .rowsNow) (e .stated .totalsNow);
           long = k .long;
           books =
               record {

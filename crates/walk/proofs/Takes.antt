@@ -280,8 +280,8 @@ module _ (bytes : List ℕ) (v : View) (s : Sums) (o : Open) (d : Done) where
       closed-fine i e = by (v .water) refl
         where
           by : (b : Bool) → v .water ≡ b → u .fault ≡ fine
-          by true w = e .ofOutfall w .0 .faults
-          by false w = e .ofStack w .faults
+          by true w = e .ofOutfall w .0 .stated .faults
+          by false w = e .ofStack w .stated .faults
 
   -- ---- what each asks before it is taken in
   pub days-lent : (stand : Stand) → Kept stand v s o d → v .days ≤ mostDays

@@ -97,6 +97,21 @@ pub record BatchTaken (v : View) (s : Sums) (b : Batch) (r : Taken) : Type 0 whe
   pub view : r .view ≡ afterBatch v (b .kg)
   pub sums : r .sums ≡ withFuel s b
 
+-- what stating a line asks, of either world
+pub record StateReady (v : View) (grams : ℕ) (soFar : List ℕ) : Type 0 where
+  pub lines : v .lines < mostLines
+  pub pollutant : (1 ≤ v .head .pollutant) × (v .head .pollutant ≤ totalCells)
+  pub small : grams ≤ mostGrams
+  pub totals : (i : ℕ) → getD soFar i 0 ≤ mostLines * mostGrams
+
+-- a line stated: its row, and its grams in the total of its pollutant
+pub record LineStated (v : View) (s : Sums) (method grams first : ℕ) (d d' : Done) (r : Taken) : Type 0 where
+  pub faults : r .fault ≡ fine
+  pub view : r .view ≡ afterEnd v
+  pub sums : r .sums ≡ s
+  pub rowsNow : d' .rows ≡ putFrom (λ k. getD (rowIn v method grams first) k 0) rowCells (rowCells * v .lines) (d .rows)
+  pub totalsNow : d' .totals ≡ withGrams (d .totals) (v .head .pollutant) grams
+
 -- what closing a line asks: the states are those that the masks say
 pub record EndReady (v : View) (s : Sums) (runs measured states conc flow soFar : List ℕ) : Type 0 where
   pub days : v .head .days ≤ mostDays
@@ -114,16 +129,12 @@ pub record EndReady (v : View) (s : Sums) (runs measured states conc flow soFar 
   pub pollutant : (1 ≤ v .head .pollutant) × (v .head .pollutant ≤ totalCells)
   pub totals : (i : ℕ) → getD soFar i 0 ≤ mostLines * mostGrams
 
--- an end: the grams, the row and the totals
+-- an end: the grams, and the line stated with them
 pub record EndTaken (v : View) (s : Sums) (states : List ℕ) (first : ℕ) (conc flow : List ℕ) (d : Done) (conc' flow' : List ℕ) (d' : Done) (r : Taken) : Type 0 where
   pub grams : ℕ
   pub small : grams ≤ mostGrams
   pub figures : LineGrams (lineMethod v) v s states conc flow conc' flow' grams
-  pub faults : r .fault ≡ fine
-  pub view : r .view ≡ afterEnd v
-  pub sums : r .sums ≡ s
-  pub rowsNow : d' .rows ≡ putFrom (λ k. getD (rowIn v (lineMethod v) grams first) k 0) rowCells (rowCells * v .lines) (d .rows)
-  pub totalsNow : d' .totals ≡ withGrams (d .totals) (v .head .pollutant) grams
+  pub stated : LineStated v s (lineMethod v) grams first d d' r
 
 -- ---- of an outfall: what a day asks
 pub record WaterDayReady (v : View) (d : WaterDay) (conc flow : List ℕ) : Type 0 where
@@ -182,16 +193,12 @@ pub record WaterEndReady (v : View) (s : Sums) (conc flow soFar : List ℕ) : Ty
   pub pollutant : (1 ≤ v .head .pollutant) × (v .head .pollutant ≤ totalCells)
   pub totals : (i : ℕ) → getD soFar i 0 ≤ mostLines * mostGrams
 
--- its end: the grams, the row and the totals; no cell moves
+-- its end: the grams, and the line stated with them; no cell moves
 pub record WaterEndTaken (v : View) (s : Sums) (first : ℕ) (conc flow : List ℕ) (d d' : Done) (r : Taken) : Type 0 where
   pub grams : ℕ
   pub small : grams ≤ mostGrams
   pub figure : grams ≡ dailyGrams (dailyMethod v) v s conc flow
-  pub faults : r .fault ≡ fine
-  pub view : r .view ≡ afterEnd v
-  pub sums : r .sums ≡ s
-  pub rowsNow : d' .rows ≡ putFrom (λ k. getD (rowIn v (dailyMethod v) grams first) k 0) rowCells (rowCells * v .lines) (d .rows)
-  pub totalsNow : d' .totals ≡ withGrams (d .totals) (v .head .pollutant) grams
+  pub stated : LineStated v s (dailyMethod v) grams first d d' r
 
 -- the end of a line of either world
 pub record CloseReady (v : View) (s : Sums) (runs measured states conc flow soFar : List ℕ) : Type 0 where
