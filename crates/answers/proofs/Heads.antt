@@ -13,12 +13,11 @@ use Rattle.law.proofs.Tests.{pick-case}
 use Rattle.law.proofs.Newest.{written, block-at}
 use Rattle.rules.specs.declared.Head.{Head}
 use Rattle.rules.specs.declared.Record.{Record}
-use Rattle.rules.specs.declared.Record.the-variants.{Bad, OfHead, OfDay, OfEnforcement, OfPlant, OfBatch, OfEnd, OfWater}
-use Rattle.rules.specs.declared.Water.the-variants.{OfOutfallHead, OfOutfallDay, OfOutfallEnforcement, OfOutfallPlant}
+use Rattle.rules.specs.declared.Record.the-variants.{Bad, OfHead, OfDay, OfEnforcement, OfPlant, OfBatch, OfEnd, OfOutfallHead, OfOutfallDay, OfOutfallEnforcement, OfOutfallPlant}
 use Rattle.rules.specs.Records.{Placed, recordIn, recordsOf}
 use Rattle.rules.specs.Outfalls.{Line, OfStack, OfOutfall, asHead, headOfLine}
-use Rattle.rules.specs.Judge.{refuse, first, placeHead, judgeWater, judgeRecord}
-use Rattle.rules.specs.Walk.{Stand, Between, Inside, InWater, viewOf, runsOf, begun, withDay, withEnforcement, withPlant, withBatch, taken, takenBetween, takenInside, takenInWater, waterBetween, waterInside, begunOutfall, withWaterDay, withDayEnforcement, withDayPlant, Outcome, Refused, Accepted, ended, faultOf, walk, outcome}
+use Rattle.rules.specs.Judge.{refuse, first, placeHead, judgeRecord}
+use Rattle.rules.specs.Walk.{Stand, Between, Inside, InWater, viewOf, runsOf, begun, withDay, withEnforcement, withPlant, withBatch, taken, takenBetween, takenInside, takenInWater, begunOutfall, withWaterDay, withDayEnforcement, withDayPlant, Outcome, Refused, Accepted, ended, faultOf, walk, outcome}
 use Rattle.answers.proofs.Walks.{passed-record}
 use Rattle.answers.specs.Heads.{headsWith, headsIn, headsOf}
 
@@ -45,7 +44,7 @@ false-true e = subst (λ (b : Bool). T (not b)) e tt
 -- a record that is not refused, taken in
 head-on : (stand : Stand) (bytes : List ℕ) (r : Record) (more : List Head) → judgeRecord (viewOf stand) (runsOf stand) r .number ≡ 0
     → standing (taken stand bytes r) ++ more ≡ standing stand ++ headsWith r more
-unfolding standing written opener headOfLine taken takenBetween takenInside takenInWater waterBetween waterInside begunOutfall withWaterDay withDayEnforcement withDayPlant headsWith begun withDay withEnforcement withPlant withBatch viewOf judgeRecord judgeWater placeHead first refuse need needAll
+unfolding standing written opener headOfLine taken takenBetween takenInside takenInWater begunOutfall withWaterDay withDayEnforcement withDayPlant headsWith begun withDay withEnforcement withPlant withBatch viewOf judgeRecord placeHead first refuse need needAll
 head-on (Between done) bytes Bad more z = refl
 head-on (Between done) bytes (OfHead h) more z = append-assoc (written opener done) (h ∷ []) more
 head-on (Between done) bytes (OfDay m) more z = refl
@@ -53,10 +52,10 @@ head-on (Between done) bytes (OfEnforcement s) more z = refl
 head-on (Between done) bytes (OfPlant s) more z = refl
 head-on (Between done) bytes (OfBatch b) more z = refl
 head-on (Between done) bytes OfEnd more z = refl
-head-on (Between done) bytes (OfWater (OfOutfallHead o)) more z = append-assoc (written opener done) (asHead o ∷ []) more
-head-on (Between done) bytes (OfWater (OfOutfallDay d)) more z = refl
-head-on (Between done) bytes (OfWater (OfOutfallEnforcement s)) more z = refl
-head-on (Between done) bytes (OfWater (OfOutfallPlant s)) more z = refl
+head-on (Between done) bytes (OfOutfallHead o) more z = append-assoc (written opener done) (asHead o ∷ []) more
+head-on (Between done) bytes (OfOutfallDay d) more z = refl
+head-on (Between done) bytes (OfOutfallEnforcement s) more z = refl
+head-on (Between done) bytes (OfOutfallPlant s) more z = refl
 head-on (Inside x done) bytes Bad more z = refl
 head-on (Inside x done) bytes (OfHead h) more z = absurd (omega arith)
 head-on (Inside x done) bytes (OfDay m) more z = refl
@@ -64,10 +63,10 @@ head-on (Inside x done) bytes (OfEnforcement s) more z = refl
 head-on (Inside x done) bytes (OfPlant s) more z = refl
 head-on (Inside x done) bytes (OfBatch b) more z = refl
 head-on (Inside x done) bytes OfEnd more z = refl
-head-on (Inside x done) bytes (OfWater (OfOutfallHead o)) more z = absurd (omega arith)
-head-on (Inside x done) bytes (OfWater (OfOutfallDay d)) more z = refl
-head-on (Inside x done) bytes (OfWater (OfOutfallEnforcement s)) more z = refl
-head-on (Inside x done) bytes (OfWater (OfOutfallPlant s)) more z = refl
+head-on (Inside x done) bytes (OfOutfallHead o) more z = absurd (omega arith)
+head-on (Inside x done) bytes (OfOutfallDay d) more z = refl
+head-on (Inside x done) bytes (OfOutfallEnforcement s) more z = refl
+head-on (Inside x done) bytes (OfOutfallPlant s) more z = refl
 head-on (InWater x done) bytes Bad more z = refl
 head-on (InWater x done) bytes (OfHead h) more z = absurd (omega arith)
 head-on (InWater x done) bytes (OfDay m) more z = refl
@@ -75,10 +74,10 @@ head-on (InWater x done) bytes (OfEnforcement s) more z = refl
 head-on (InWater x done) bytes (OfPlant s) more z = refl
 head-on (InWater x done) bytes (OfBatch b) more z = refl
 head-on (InWater x done) bytes OfEnd more z = refl
-head-on (InWater x done) bytes (OfWater (OfOutfallHead o)) more z = absurd (omega arith)
-head-on (InWater x done) bytes (OfWater (OfOutfallDay d)) more z = refl
-head-on (InWater x done) bytes (OfWater (OfOutfallEnforcement s)) more z = refl
-head-on (InWater x done) bytes (OfWater (OfOutfallPlant s)) more z = refl
+head-on (InWater x done) bytes (OfOutfallHead o) more z = absurd (omega arith)
+head-on (InWater x done) bytes (OfOutfallDay d) more z = refl
+head-on (InWater x done) bytes (OfOutfallEnforcement s) more z = refl
+head-on (InWater x done) bytes (OfOutfallPlant s) more z = refl
 
 walk-heads : (file : List ℕ) (ps : List Placed) (stand : Stand) (lines : List Line) → walk file ps stand ≡ Accepted lines → written opener lines ≡ standing stand ++ headsIn ps
 unfolding walk ended standing headsIn linesIn isAccepted

@@ -17,15 +17,14 @@ use Rattle.rules.specs.declared.Fault.{Fault}
 use Rattle.rules.specs.declared.Survey.{Survey}
 use Rattle.rules.specs.declared.View.{View}
 use Rattle.rules.specs.declared.Record.{Record}
-use Rattle.rules.specs.declared.Record.the-variants.{Bad, OfHead, OfDay, OfEnforcement, OfPlant, OfBatch, OfEnd, OfWater}
-use Rattle.rules.specs.declared.Water.the-variants.{OfOutfallHead, OfOutfallDay, OfOutfallEnforcement, OfOutfallPlant}
+use Rattle.rules.specs.declared.Record.the-variants.{Bad, OfHead, OfDay, OfEnforcement, OfPlant, OfBatch, OfEnd, OfOutfallHead, OfOutfallDay, OfOutfallEnforcement, OfOutfallPlant}
 use Rattle.rules.specs.Records.{Day, dayOf, Placed, recordIn, recordsOf}
 use Rattle.rules.specs.Hours.{bit, runMasks, runsAt}
 use Rattle.rules.specs.Lines.{StackLine, surveyed, daysAfter}
 use Rattle.rules.specs.Outfalls.{OutfallLine, Line, OfStack, OfOutfall}
 use Rattle.rules.specs.Alone.{noneMissing, daysAlone}
 use Rattle.rules.specs.Judge.{refuse, fine, first, placeEnforcement, placePlant, judgeStopped, judgeSurvey, judgeRecord}
-use Rattle.rules.specs.Walk.{Stand, Between, Inside, InWater, viewOf, runsOf, begun, withDay, withEnforcement, withPlant, withBatch, taken, takenBetween, takenInside, takenInWater, waterBetween, waterInside, Outcome, Refused, Accepted, ended, faultOf, walk, outcome}
+use Rattle.rules.specs.Walk.{Stand, Between, Inside, InWater, viewOf, runsOf, begun, withDay, withEnforcement, withPlant, withBatch, taken, takenBetween, takenInside, takenInWater, Outcome, Refused, Accepted, ended, faultOf, walk, outcome}
 use Rattle.rules.proofs.Faults.{first-goes, first-passed}
 use Rattle.rules.proofs.Alone.{InRunning, SurveysRun, nothing-else}
 use Rattle.answers.proofs.Walks.{passed-record}
@@ -68,7 +67,7 @@ Runs (Inside x done) = SurveysRun x × Each LineRuns done
 Runs (InWater x done) = Each LineRuns done
 
 runs-on : (stand : Stand) (bytes : List ℕ) (r : Record) → Runs stand → judgeRecord (viewOf stand) (runsOf stand) r .number ≡ 0 → Runs (taken stand bytes r)
-unfolding Runs LineRuns taken takenBetween takenInside takenInWater waterBetween waterInside judgeRecord runsOf begun withDay withEnforcement withPlant withBatch runMasks
+unfolding Runs LineRuns taken takenBetween takenInside takenInWater judgeRecord runsOf begun withDay withEnforcement withPlant withBatch runMasks
 runs-on (Between done) bytes Bad k z = k
 runs-on (Between done) bytes (OfHead h) k z = (record { enforcement = each-none; plant = each-none }, k)
 runs-on (Between done) bytes (OfDay m) k z = k
@@ -76,10 +75,10 @@ runs-on (Between done) bytes (OfEnforcement s) k z = k
 runs-on (Between done) bytes (OfPlant s) k z = k
 runs-on (Between done) bytes (OfBatch b) k z = k
 runs-on (Between done) bytes OfEnd k z = k
-runs-on (Between done) bytes (OfWater (OfOutfallHead o)) k z = k
-runs-on (Between done) bytes (OfWater (OfOutfallDay d)) k z = k
-runs-on (Between done) bytes (OfWater (OfOutfallEnforcement s)) k z = k
-runs-on (Between done) bytes (OfWater (OfOutfallPlant s)) k z = k
+runs-on (Between done) bytes (OfOutfallHead o) k z = k
+runs-on (Between done) bytes (OfOutfallDay d) k z = k
+runs-on (Between done) bytes (OfOutfallEnforcement s) k z = k
+runs-on (Between done) bytes (OfOutfallPlant s) k z = k
 runs-on (Inside x done) bytes Bad k z = k
 runs-on (Inside x done) bytes (OfHead h) k z = k
 runs-on (Inside x done) bytes (OfDay m) k z =
@@ -91,7 +90,10 @@ runs-on (Inside x done) bytes (OfPlant s) k z =
     (record { enforcement = k .0 .enforcement; plant = each-more (survey-runs (placePlant (viewOf (Inside x done) .inside) (viewOf (Inside x done)) s) _ (runMasks (x .days)) s z) (k .0 .plant) }, k .1)
 runs-on (Inside x done) bytes (OfBatch b) k z = (record { enforcement = k .0 .enforcement; plant = k .0 .plant }, k .1)
 runs-on (Inside x done) bytes OfEnd k z = each-more (k .0) (k .1)
-runs-on (Inside x done) bytes (OfWater w) k z = k
+runs-on (Inside x done) bytes (OfOutfallHead o) k z = k
+runs-on (Inside x done) bytes (OfOutfallDay d) k z = k
+runs-on (Inside x done) bytes (OfOutfallEnforcement s) k z = k
+runs-on (Inside x done) bytes (OfOutfallPlant s) k z = k
 runs-on (InWater x done) bytes Bad k z = k
 runs-on (InWater x done) bytes (OfHead h) k z = k
 runs-on (InWater x done) bytes (OfDay m) k z = k
@@ -99,10 +101,10 @@ runs-on (InWater x done) bytes (OfEnforcement s) k z = k
 runs-on (InWater x done) bytes (OfPlant s) k z = k
 runs-on (InWater x done) bytes (OfBatch b) k z = k
 runs-on (InWater x done) bytes OfEnd k z = each-more tt k
-runs-on (InWater x done) bytes (OfWater (OfOutfallHead o)) k z = k
-runs-on (InWater x done) bytes (OfWater (OfOutfallDay d)) k z = k
-runs-on (InWater x done) bytes (OfWater (OfOutfallEnforcement s)) k z = k
-runs-on (InWater x done) bytes (OfWater (OfOutfallPlant s)) k z = k
+runs-on (InWater x done) bytes (OfOutfallHead o) k z = k
+runs-on (InWater x done) bytes (OfOutfallDay d) k z = k
+runs-on (InWater x done) bytes (OfOutfallEnforcement s) k z = k
+runs-on (InWater x done) bytes (OfOutfallPlant s) k z = k
 
 -- ---- the lines of a file
 unfoldable linesIn : Outcome → List Line

@@ -7,17 +7,16 @@ use native.Mathlib.Omega.{arith}
 use lib.Dec.{eqb}
 use borrow.Author.Tests.{ne-eqb, eqb-false}
 use Rattle.law.proofs.Tests.{pick-case}
+use Rattle.law.specs.Words.{needAll}
 use Rattle.rules.specs.declared.Answer.{Answer}
 use Rattle.rules.specs.declared.Fault.{Fault}
 use Rattle.rules.specs.declared.Survey.{Survey}
 use Rattle.rules.specs.declared.Record.{Record}
-use Rattle.rules.specs.declared.Record.the-variants.{Bad, OfHead, OfDay, OfEnforcement, OfPlant, OfBatch, OfEnd, OfWater}
-use Rattle.rules.specs.declared.Water.{Water}
-use Rattle.rules.specs.declared.Water.the-variants.{OfOutfallHead, OfOutfallDay, OfOutfallEnforcement, OfOutfallPlant}
+use Rattle.rules.specs.declared.Record.the-variants.{Bad, OfHead, OfDay, OfEnforcement, OfPlant, OfBatch, OfEnd, OfOutfallHead, OfOutfallDay, OfOutfallEnforcement, OfOutfallPlant}
 use Rattle.rules.specs.declared.View.{View}
 use Rattle.rules.specs.Records.{dayOf, recordIn, Placed, recordsOf}
 use Rattle.rules.specs.Fields.{Field, fits}
-use Rattle.rules.specs.Judge.{refuse, fine, first, firstWrong, placeHead, rangeHead, placeDay, rangeMasks, placeEnforcement, placePlant, judgeSurvey, placeBatch, rangeBatch, placeEnd, judgeRecord, judgeReadings, judgeHours, judge, placeWaterDay, judgeDaySurvey, judgeWater}
+use Rattle.rules.specs.Judge.{refuse, fine, first, firstWrong, placeHead, rangeHead, placeDay, rangeMasks, placeEnforcement, placePlant, judgeSurvey, placeBatch, rangeBatch, placeEnd, judgeRecord, judgeReadings, judgeHours, judge, placeWaterDay, judgeDaySurvey}
 use Rattle.rules.specs.Walk.{Stand, Between, Inside, InWater, viewOf, runsOf, taken, Outcome, Refused, ended, faultOf, walk, outcome}
 use Rattle.rules.specs.Account.{Promise}
 use Rattle.rules.proofs.Faults.{at-place-number}
@@ -53,23 +52,23 @@ module _ (v : View) (runs bytes : List ℕ) where
   unfolding judgeDaySurvey
   day-survey-three s = two-three _ _ (wrong-three 14 (survey-row _ s)) (silent-stopped-day three quiet-three runs (s .hour))
 
-  water-three : (w : Water) → NotThree (judgeWater v runs w)
-  unfolding judgeWater placeHead placeWaterDay placeEnforcement placePlant
-  water-three (OfOutfallHead o) = two-three _ _ (silent-placed three quiet-three _) (wrong-three 8 (outfall-row o))
-  water-three (OfOutfallDay d) = two-three _ _ (silent-placed three quiet-three _) (wrong-three 14 (water-day-row d))
-  water-three (OfOutfallEnforcement s) = two-three _ _ (silent-placed three quiet-three _) (day-survey-three s)
-  water-three (OfOutfallPlant s) = two-three _ _ (silent-placed three quiet-three _) (day-survey-three s)
+  -- a record without readings to judge, out of place or by its fields
+  by-three : (ts : List Bool) (f : Fault) → NotThree f → NotThree (first (first (needAll (refuse 2 0) ts fine) f) fine)
+  by-three ts f n = two-three _ _ (two-three _ _ (silent-placed three quiet-three ts) n) (silent-fine three quiet-three)
 
   record-three : (r : Record) → NotThree (first (judgeRecord v runs r) (judgeReadings bytes r))
-  unfolding judgeRecord judgeReadings judgeHours placeHead rangeHead placeDay rangeMasks placeEnforcement placePlant placeBatch rangeBatch placeEnd
+  unfolding judgeRecord judgeReadings judgeHours placeHead rangeHead placeDay rangeMasks placeEnforcement placePlant placeBatch rangeBatch placeEnd placeWaterDay
   record-three Bad = two-three _ _ (silent-bad three quiet-three) (silent-fine three quiet-three)
-  record-three (OfHead h) = two-three _ _ (two-three _ _ (silent-placed three quiet-three _) (wrong-three 14 (head-row h))) (silent-fine three quiet-three)
+  record-three (OfHead h) = by-three _ _ (wrong-three 14 (head-row h))
   record-three (OfDay m) = two-three _ _ (two-three _ _ (silent-placed three quiet-three _) (wrong-three 13 (mask-row m))) (wrong-three 205 (reading-row (dayOf bytes)))
-  record-three (OfEnforcement s) = two-three _ _ (two-three _ _ (silent-placed three quiet-three _) (survey-three s)) (silent-fine three quiet-three)
-  record-three (OfPlant s) = two-three _ _ (two-three _ _ (silent-placed three quiet-three _) (survey-three s)) (silent-fine three quiet-three)
-  record-three (OfBatch b) = two-three _ _ (two-three _ _ (silent-placed three quiet-three _) (wrong-three 16 (batch-row (v .fuel) b))) (silent-fine three quiet-three)
-  record-three OfEnd = two-three _ _ (two-three _ _ (silent-placed three quiet-three _) (silent-method three quiet-three v)) (silent-fine three quiet-three)
-  record-three (OfWater w) = two-three _ _ (water-three w) (silent-fine three quiet-three)
+  record-three (OfEnforcement s) = by-three _ _ (survey-three s)
+  record-three (OfPlant s) = by-three _ _ (survey-three s)
+  record-three (OfBatch b) = by-three _ _ (wrong-three 16 (batch-row (v .fuel) b))
+  record-three OfEnd = by-three _ _ (silent-method three quiet-three v)
+  record-three (OfOutfallHead o) = by-three _ _ (wrong-three 8 (outfall-row o))
+  record-three (OfOutfallDay d) = by-three _ _ (wrong-three 14 (water-day-row d))
+  record-three (OfOutfallEnforcement s) = by-three _ _ (day-survey-three s)
+  record-three (OfOutfallPlant s) = by-three _ _ (day-survey-three s)
 
 walk-three : (file : List ℕ) (ps : List Placed) (stand : Stand) → NotThree (faultBy (walk file ps stand))
 unfolding walk ended faultBy refuse fine faultOf judge

@@ -12,15 +12,13 @@ use Rattle.rules.specs.declared.Head.{Head}
 use Rattle.rules.specs.declared.View.{View}
 use Rattle.rules.specs.declared.Fault.{Fault}
 use Rattle.rules.specs.declared.Record.{Record}
-use Rattle.rules.specs.declared.Record.the-variants.{Bad, OfHead, OfDay, OfEnforcement, OfPlant, OfBatch, OfEnd, OfWater}
-use Rattle.rules.specs.declared.Water.{Water}
-use Rattle.rules.specs.declared.Water.the-variants.{OfOutfallHead, OfOutfallDay, OfOutfallEnforcement, OfOutfallPlant}
+use Rattle.rules.specs.declared.Record.the-variants.{Bad, OfHead, OfDay, OfEnforcement, OfPlant, OfBatch, OfEnd, OfOutfallHead, OfOutfallDay, OfOutfallEnforcement, OfOutfallPlant}
 use Rattle.rules.specs.Records.{Placed, recordIn, recordsOf}
 use Rattle.rules.specs.Outfalls.{Line, asHead}
 use Rattle.rules.specs.Fields.{outfallFields}
-use Rattle.rules.specs.Judge.{refuse, fine, first, firstWrong, placeHead, rangeHead, judgeWater, judgeRecord, judgeReadings, judge}
+use Rattle.rules.specs.Judge.{refuse, fine, first, firstWrong, placeHead, rangeHead, judgeRecord, judgeReadings, judge}
 use Rattle.rules.proofs.Faults.{first-passed, at-place-number}
-use Rattle.rules.specs.Walk.{Stand, Between, Inside, InWater, viewOf, runsOf, taken, takenBetween, takenInside, takenInWater, waterBetween, waterInside, Outcome, Refused, Accepted, ended, faultOf, walk, outcome}
+use Rattle.rules.specs.Walk.{Stand, Between, Inside, InWater, viewOf, runsOf, taken, takenBetween, takenInside, takenInWater, Outcome, Refused, Accepted, ended, faultOf, walk, outcome}
 
 -- ---- a refusal has a number
 unfoldable numberIn : Outcome → ℕ
@@ -60,7 +58,7 @@ unfolding placeHead refuse
 head-room v h range z = ltb-true (v .lines) mostLines (all-passed (λ f. f .number ≡ 0) (refuse 2 0) fine (λ e. omega arith) _ (first-passed (placeHead v h) range z) 2)
 
 room-on : (stand : Stand) (bytes : List ℕ) (r : Record) → Room stand → judgeRecord (viewOf stand) (runsOf stand) r .number ≡ 0 → Room (taken stand bytes r)
-unfolding Room taken takenBetween takenInside takenInWater waterBetween waterInside judgeRecord judgeWater viewOf
+unfolding Room taken takenBetween takenInside takenInWater judgeRecord viewOf
 room-on (Between done) bytes Bad k z = k
 room-on (Between done) bytes (OfHead h) k z = head-room (viewOf (Between done)) h (rangeHead h) z
 room-on (Between done) bytes (OfDay m) k z = k
@@ -68,10 +66,10 @@ room-on (Between done) bytes (OfEnforcement s) k z = k
 room-on (Between done) bytes (OfPlant s) k z = k
 room-on (Between done) bytes (OfBatch b) k z = k
 room-on (Between done) bytes OfEnd k z = k
-room-on (Between done) bytes (OfWater (OfOutfallHead o)) k z = head-room (viewOf (Between done)) (asHead o) (firstWrong (outfallFields o)) z
-room-on (Between done) bytes (OfWater (OfOutfallDay d)) k z = k
-room-on (Between done) bytes (OfWater (OfOutfallEnforcement s)) k z = k
-room-on (Between done) bytes (OfWater (OfOutfallPlant s)) k z = k
+room-on (Between done) bytes (OfOutfallHead o) k z = head-room (viewOf (Between done)) (asHead o) (firstWrong (outfallFields o)) z
+room-on (Between done) bytes (OfOutfallDay d) k z = k
+room-on (Between done) bytes (OfOutfallEnforcement s) k z = k
+room-on (Between done) bytes (OfOutfallPlant s) k z = k
 room-on (Inside x done) bytes Bad k z = k
 room-on (Inside x done) bytes (OfHead h) k z = k
 room-on (Inside x done) bytes (OfDay m) k z = k
@@ -79,7 +77,10 @@ room-on (Inside x done) bytes (OfEnforcement s) k z = k
 room-on (Inside x done) bytes (OfPlant s) k z = k
 room-on (Inside x done) bytes (OfBatch b) k z = k
 room-on (Inside x done) bytes OfEnd k z = k
-room-on (Inside x done) bytes (OfWater w) k z = k
+room-on (Inside x done) bytes (OfOutfallHead o) k z = k
+room-on (Inside x done) bytes (OfOutfallDay d) k z = k
+room-on (Inside x done) bytes (OfOutfallEnforcement s) k z = k
+room-on (Inside x done) bytes (OfOutfallPlant s) k z = k
 room-on (InWater x done) bytes Bad k z = k
 room-on (InWater x done) bytes (OfHead h) k z = k
 room-on (InWater x done) bytes (OfDay m) k z = k
@@ -87,10 +88,10 @@ room-on (InWater x done) bytes (OfEnforcement s) k z = k
 room-on (InWater x done) bytes (OfPlant s) k z = k
 room-on (InWater x done) bytes (OfBatch b) k z = k
 room-on (InWater x done) bytes OfEnd k z = k
-room-on (InWater x done) bytes (OfWater (OfOutfallHead o)) k z = k
-room-on (InWater x done) bytes (OfWater (OfOutfallDay d)) k z = k
-room-on (InWater x done) bytes (OfWater (OfOutfallEnforcement s)) k z = k
-room-on (InWater x done) bytes (OfWater (OfOutfallPlant s)) k z = k
+room-on (InWater x done) bytes (OfOutfallHead o) k z = k
+room-on (InWater x done) bytes (OfOutfallDay d) k z = k
+room-on (InWater x done) bytes (OfOutfallEnforcement s) k z = k
+room-on (InWater x done) bytes (OfOutfallPlant s) k z = k
 
 walk-48 : (file : List ℕ) (ps : List Placed) (stand : Stand) → Room stand → countIn (walk file ps stand) ≤ mostLines
 unfolding walk ended countIn Room

@@ -20,7 +20,7 @@ use Rattle.rules.specs.declared.Record.{Record}
 use Rattle.rules.specs.declared.View.{View}
 use Rattle.rules.specs.Records.{headOf, pairOf, masksOf, dayOf, surveyOf, batchOf, outfallOf, waterDayOf, recordIn, sizeIn}
 use Rattle.rules.specs.Fields.{Field, fits, headFields, maskFields, measuredFields, blankFields, hourFields, readingFields, surveyFields, batchFields, outfallFields, waterDayFields}
-use Rattle.rules.specs.Judge.{refuse, fine, first, firstWrong, placeHead, rangeHead, placeDay, rangeMasks, placeEnforcement, placePlant, judgeSurvey, placeBatch, rangeBatch, placeEnd, judgeRecord, judgeReadings, judgeHours, placeWaterDay, judgeDaySurvey, judgeWater}
+use Rattle.rules.specs.Judge.{refuse, fine, first, firstWrong, placeHead, rangeHead, placeDay, rangeMasks, placeEnforcement, placePlant, judgeSurvey, placeBatch, rangeBatch, placeEnd, judgeRecord, judgeReadings, judgeHours, placeWaterDay, judgeDaySurvey}
 use Rattle.rules.proofs.Records.{record-case, pair-at}
 use Rattle.rules.proofs.Faults.{first-first}
 use Rattle.rules.proofs.Fields.{Row, row-none, row-more, row-ends, row-append, wrong-append, head-row, mask-row, reading-row, survey-row, batch-row, outfall-row, water-day-row}
@@ -187,7 +187,7 @@ module _ (v : View) (runs bytes : List ℕ) where
   by-fields n fs ts f p = before-silent 4 n fs _ _ (behind-silent 4 n fs _ _ (silent-placed ofField quiet-fields ts) p) no-more-fields
 
   pub in-record : Claim (recordIn bytes)
-  unfolding judgeRecord judgeReadings fieldsOf placeHead rangeHead placeEnforcement placePlant placeBatch rangeBatch placeEnd judgeWater placeWaterDay
+  unfolding judgeRecord judgeReadings fieldsOf placeHead rangeHead placeEnforcement placePlant placeBatch rangeBatch placeEnd placeWaterDay
   in-record =
       record-case Claim bytes
       (λ o. absurd (clash _ o (silent-first ofField quiet-fields _ _ (silent-bad ofField quiet-fields) no-more-fields)))

@@ -2,8 +2,7 @@
 use mathlib.Core.List.{List, [], _∷_}
 use Rattle.rules.specs.declared.Head.{Head}
 use Rattle.rules.specs.declared.Record.{Record}
-use Rattle.rules.specs.declared.Record.the-variants.{Bad, OfHead, OfDay, OfEnforcement, OfPlant, OfBatch, OfEnd, OfWater}
-use Rattle.rules.specs.declared.Water.the-variants.{OfOutfallHead, OfOutfallDay, OfOutfallEnforcement, OfOutfallPlant}
+use Rattle.rules.specs.declared.Record.the-variants.{Bad, OfHead, OfDay, OfEnforcement, OfPlant, OfBatch, OfEnd, OfOutfallHead, OfOutfallDay, OfOutfallEnforcement, OfOutfallPlant}
 use Rattle.rules.specs.Outfalls.{asHead}
 use Rattle.rules.specs.Records.{Placed, recordIn, recordsOf}
 use Prim.Native.Nat.{ℕ}
@@ -17,10 +16,10 @@ headsWith (OfEnforcement s) more = more
 headsWith (OfPlant s) more = more
 headsWith (OfBatch b) more = more
 headsWith OfEnd more = more
-headsWith (OfWater (OfOutfallHead o)) more = asHead o ∷ more
-headsWith (OfWater (OfOutfallDay d)) more = more
-headsWith (OfWater (OfOutfallEnforcement s)) more = more
-headsWith (OfWater (OfOutfallPlant s)) more = more
+headsWith (OfOutfallHead o) more = asHead o ∷ more
+headsWith (OfOutfallDay d) more = more
+headsWith (OfOutfallEnforcement s) more = more
+headsWith (OfOutfallPlant s) more = more
 
 unfoldable pub headsIn : List Placed → List Head
 headsIn [] = []

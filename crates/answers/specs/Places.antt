@@ -9,8 +9,7 @@ use Rattle.law.specs.Numbers.{hoursOfDay}
 use Rattle.law.specs.Words.{pick}
 use Rattle.field.specs.Field.{u8, u16, u32, u64}
 use Rattle.rules.specs.declared.Record.{Record}
-use Rattle.rules.specs.declared.Record.the-variants.{Bad, OfHead, OfDay, OfEnforcement, OfPlant, OfBatch, OfEnd, OfWater}
-use Rattle.rules.specs.declared.Water.the-variants.{OfOutfallHead, OfOutfallDay, OfOutfallEnforcement, OfOutfallPlant}
+use Rattle.rules.specs.declared.Record.the-variants.{Bad, OfHead, OfDay, OfEnforcement, OfPlant, OfBatch, OfEnd, OfOutfallHead, OfOutfallDay, OfOutfallEnforcement, OfOutfallPlant}
 use Rattle.rules.specs.declared.View.{View}
 use Rattle.rules.specs.Records.{dayOf, recordIn, sizeIn, Placed, recordsOf}
 use Rattle.rules.specs.Fields.{Field, fits, between, headFields, maskFields, readingFields, surveyFields, batchFields, outfallFields, waterDayFields}
@@ -28,10 +27,10 @@ fieldsOf v bytes (OfEnforcement s) = surveyFields (hoursOfDay * v .head .days) s
 fieldsOf v bytes (OfPlant s) = surveyFields (hoursOfDay * v .head .days) s
 fieldsOf v bytes (OfBatch b) = batchFields (v .fuel) b
 fieldsOf v bytes OfEnd = []
-fieldsOf v bytes (OfWater (OfOutfallHead o)) = outfallFields o
-fieldsOf v bytes (OfWater (OfOutfallDay d)) = waterDayFields d
-fieldsOf v bytes (OfWater (OfOutfallEnforcement s)) = surveyFields (v .head .days) s
-fieldsOf v bytes (OfWater (OfOutfallPlant s)) = surveyFields (v .head .days) s
+fieldsOf v bytes (OfOutfallHead o) = outfallFields o
+fieldsOf v bytes (OfOutfallDay d) = waterDayFields d
+fieldsOf v bytes (OfOutfallEnforcement s) = surveyFields (v .head .days) s
+fieldsOf v bytes (OfOutfallPlant s) = surveyFields (v .head .days) s
 fieldsOf v bytes Bad = []
 
 -- the number that lies at a place, so many bytes wide

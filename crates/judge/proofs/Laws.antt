@@ -15,11 +15,9 @@ use Rattle.rules.specs.declared.Masks.{Masks}
 use Rattle.rules.specs.declared.Survey.{Survey}
 use Rattle.rules.specs.declared.Batch.{Batch}
 use Rattle.rules.specs.declared.Record.{Record}
-use Rattle.rules.specs.declared.Record.the-variants.{Bad, OfHead, OfDay, OfEnforcement, OfPlant, OfBatch, OfEnd, OfWater}
+use Rattle.rules.specs.declared.Record.the-variants.{Bad, OfHead, OfDay, OfEnforcement, OfPlant, OfBatch, OfEnd, OfOutfallHead, OfOutfallDay, OfOutfallEnforcement, OfOutfallPlant}
 use Rattle.rules.specs.declared.Outfall.{Outfall}
 use Rattle.rules.specs.declared.WaterDay.{WaterDay}
-use Rattle.rules.specs.declared.Water.{Water}
-use Rattle.rules.specs.declared.Water.the-variants.{OfOutfallHead, OfOutfallDay, OfOutfallEnforcement, OfOutfallPlant}
 use Rattle.rules.specs.declared.Fault.{Fault}
 use Rattle.rules.specs.declared.View.{View}
 use Rattle.rules.specs.declared.Coefficients.{Coefficients}
@@ -29,7 +27,7 @@ use Rattle.rules.specs.Outfalls.{asHead}
 use Rattle.rules.specs.Tables.{coefficientsOf}
 use Rattle.rules.specs.OnPaper.{recordOnPaper, coefficientsOnPaper}
 use Rattle.rules.specs.Fields.{headFields, surveyFields, batchFields, outfallFields, waterDayFields}
-use Rattle.rules.specs.Judge.{refuse, fine, first, firstWrong, placeHead, rangeHead, placeDay, rangeMasks, blamed, judgePair, judgeHours, surveysLeft, surveyTests, placeEnforcement, placePlant, judgeStopped, judgeSurvey, placeBatch, rangeBatch, judgeEntry, placeEnd, lineMethod, judgeFuel, dailyMethod, judgeMethod, placeWaterDay, judgeStoppedDay, judgeDaySurvey, judgeWater, judgeRecord, judgeReadings, judge}
+use Rattle.rules.specs.Judge.{refuse, fine, first, firstWrong, placeHead, rangeHead, placeDay, rangeMasks, blamed, judgePair, judgeHours, surveysLeft, surveyTests, placeEnforcement, placePlant, judgeStopped, judgeSurvey, placeBatch, rangeBatch, judgeEntry, placeEnd, lineMethod, judgeFuel, dailyMethod, judgeMethod, placeWaterDay, judgeStoppedDay, judgeDaySurvey, judgeRecord, judgeReadings, judge}
 use Rattle.rules.proofs.Faults.{Stands, stands, stands-fine, stands-first, Within, withins, within-fine, within-first, first-goes, first-stops, passed, each-passed, both-passed}
 use Rattle.rules.proofs.Fields.{stands-wrong, within-wrong, each-fits, head-row, mask-row, reading-row, hours-stand, survey-row, batch-row, outfall-row, water-day-row}
 use Rattle.rules.proofs.Records.{record-case}
@@ -49,13 +47,9 @@ survey-stands : (v : View) (runs : List ℕ) (s : Survey) → Stands (judgeSurve
 unfolding judgeSurvey judgeStopped
 survey-stands v runs s = search stands
 
--- a record of an outfall
-water-stands : (v : View) (states : List ℕ) (w : Water) → Stands (judgeWater v states w)
-unfolding judgeWater judgeDaySurvey judgeStoppedDay
-water-stands v states (OfOutfallHead o) = stands-first _ _ (stands-wrong 8 (outfall-row o))
-water-stands v states (OfOutfallDay d) = stands-first _ _ (stands-wrong 14 (water-day-row d))
-water-stands v states (OfOutfallEnforcement s) = stands-first _ _ (search stands)
-water-stands v states (OfOutfallPlant s) = stands-first _ _ (search stands)
+day-survey-stands : (v : View) (states : List ℕ) (s : Survey) → Stands (judgeDaySurvey v states s)
+unfolding judgeDaySurvey judgeStoppedDay
+day-survey-stands v states s = search stands
 
 batch-stands : (v : View) (b : Batch) → Stands (rangeBatch v b)
 unfolding rangeBatch
@@ -70,7 +64,10 @@ record-stands v runs (OfEnforcement s) = stands-first _ _ (survey-stands v runs 
 record-stands v runs (OfPlant s) = stands-first _ _ (survey-stands v runs s)
 record-stands v runs (OfBatch b) = stands-first _ _ (batch-stands v b)
 record-stands v runs OfEnd = search stands depth 20
-record-stands v runs (OfWater w) = water-stands v runs w
+record-stands v runs (OfOutfallHead o) = stands-first _ _ (stands-wrong 8 (outfall-row o))
+record-stands v runs (OfOutfallDay d) = stands-first _ _ (stands-wrong 14 (water-day-row d))
+record-stands v runs (OfOutfallEnforcement s) = stands-first _ _ (day-survey-stands v runs s)
+record-stands v runs (OfOutfallPlant s) = stands-first _ _ (day-survey-stands v runs s)
 
 pub readings-stand : (bytes : List ℕ) (r : Record) → Stands (judgeReadings bytes r)
 unfolding judgeReadings
@@ -81,7 +78,10 @@ readings-stand bytes (OfEnforcement s) = stands-fine
 readings-stand bytes (OfPlant s) = stands-fine
 readings-stand bytes (OfBatch b) = stands-fine
 readings-stand bytes OfEnd = stands-fine
-readings-stand bytes (OfWater w) = stands-fine
+readings-stand bytes (OfOutfallHead o) = stands-fine
+readings-stand bytes (OfOutfallDay d) = stands-fine
+readings-stand bytes (OfOutfallEnforcement s) = stands-fine
+readings-stand bytes (OfOutfallPlant s) = stands-fine
 
 -- ---- where a record is refused: within its bytes
 within-more : (n m : ℕ) (f : Fault) → n ≤ m → Within n f → Within m f
@@ -96,7 +96,7 @@ unfolding judgeDaySurvey judgeStoppedDay
 day-survey-within v states s = within-first 14 _ _ (within-wrong 14 (survey-row (v .head .days) s)) (search withins)
 
 pub record-within : (v : View) (runs bytes : List ℕ) → Within (length bytes) (judgeRecord v runs (recordIn bytes))
-unfolding judgeRecord placeHead rangeHead placeDay rangeMasks placeEnforcement placePlant placeBatch rangeBatch judgeEntry placeEnd judgeFuel judgeMethod judgeWater placeWaterDay
+unfolding judgeRecord placeHead rangeHead placeDay rangeMasks placeEnforcement placePlant placeBatch rangeBatch judgeEntry placeEnd judgeFuel judgeMethod placeWaterDay
 record-within v runs bytes =
     record-case (λ (r : Record). Within (length bytes) (judgeRecord v runs r)) bytes
     (search withins)
@@ -239,8 +239,8 @@ module _ (v : View) where
   plant-ok runs s e = placed-plant (v .inside) (hoursOfDay * v .head .days) s (judgeStopped runs (s .hour)) e
 
   -- ---- an outfall
-  pub outfall-ok : (states : List ℕ) (o : Outfall) → judgeRecord v states (OfWater (OfOutfallHead o)) ≡ fine → OutfallOk v o
-  unfolding judgeRecord judgeWater placeHead outfallFields
+  pub outfall-ok : (states : List ℕ) (o : Outfall) → judgeRecord v states (OfOutfallHead o) ≡ fine → OutfallOk v o
+  unfolding judgeRecord placeHead outfallFields
   outfall-ok states o e =
       let both = both-passed (placeHead v (asHead o)) (firstWrong (outfallFields o)) (search stands) e in
       let p = each-passed 2 0 _ refl (both .0) in
@@ -249,19 +249,19 @@ module _ (v : View) where
       let days = both-true (leb 1 (o .days)) (leb (o .days) mostDays) (r 1) in
       record { outside = not-true (v .inside || v .water) (p 0); room = ltb-true _ _ (p 2); pollutant-least = leb-true _ _ (pollutant .0); pollutant-most = leb-true _ _ (pollutant .1); days-most = leb-true _ _ (days .1) }
 
-  pub water-day-ok : (states : List ℕ) (d : WaterDay) → judgeRecord v states (OfWater (OfOutfallDay d)) ≡ fine → WaterDayOk v d
-  unfolding judgeRecord judgeWater placeWaterDay
+  pub water-day-ok : (states : List ℕ) (d : WaterDay) → judgeRecord v states (OfOutfallDay d) ≡ fine → WaterDayOk v d
+  unfolding judgeRecord placeWaterDay
   water-day-ok states d e =
       let both = both-passed (placeWaterDay v d) (firstWrong (waterDayFields d)) (search stands) e in
       let p = each-passed 2 0 _ refl (both .0) in
       record { inside = p 0; room = ltb-true _ _ (p 1); turn = eqb-true _ _ (p 2); fields = both .1 }
 
-  pub day-enforcement-ok : (states : List ℕ) (s : Survey) → judgeRecord v states (OfWater (OfOutfallEnforcement s)) ≡ fine → (v .plant .count ≡ 0) × SurveyOk (v .water) (v .head .days) v s
-  unfolding judgeRecord judgeWater judgeDaySurvey
+  pub day-enforcement-ok : (states : List ℕ) (s : Survey) → judgeRecord v states (OfOutfallEnforcement s) ≡ fine → (v .plant .count ≡ 0) × SurveyOk (v .water) (v .head .days) v s
+  unfolding judgeRecord judgeDaySurvey
   day-enforcement-ok states s e = placed-enforcement (v .water) (v .head .days) s (judgeStoppedDay states (s .hour)) e
 
-  pub day-plant-ok : (states : List ℕ) (s : Survey) → judgeRecord v states (OfWater (OfOutfallPlant s)) ≡ fine → SurveyOk (v .water) (v .head .days) v s
-  unfolding judgeRecord judgeWater judgeDaySurvey
+  pub day-plant-ok : (states : List ℕ) (s : Survey) → judgeRecord v states (OfOutfallPlant s) ≡ fine → SurveyOk (v .water) (v .head .days) v s
+  unfolding judgeRecord judgeDaySurvey
   day-plant-ok states s e = placed-plant (v .water) (v .head .days) s (judgeStoppedDay states (s .hour)) e
 
   pub batch-ok : (runs : List ℕ) (b : Batch) → judgeRecord v runs (OfBatch b) ≡ fine → BatchOk v b

@@ -7,12 +7,10 @@ use lib.Dec.{eqb}
 use Rattle.law.specs.Words.{pick}
 use Rattle.rules.specs.declared.Survey.{Survey}
 use Rattle.rules.specs.declared.Record.{Record}
-use Rattle.rules.specs.declared.Record.the-variants.{Bad, OfHead, OfDay, OfEnforcement, OfPlant, OfBatch, OfEnd, OfWater}
-use Rattle.rules.specs.declared.Water.{Water}
-use Rattle.rules.specs.declared.Water.the-variants.{OfOutfallHead, OfOutfallDay, OfOutfallEnforcement, OfOutfallPlant}
+use Rattle.rules.specs.declared.Record.the-variants.{Bad, OfHead, OfDay, OfEnforcement, OfPlant, OfBatch, OfEnd, OfOutfallHead, OfOutfallDay, OfOutfallEnforcement, OfOutfallPlant}
 use Rattle.rules.specs.declared.Coefficients.{Coefficients}
 use Rattle.rules.specs.declared.Coefficients.the-variants.{Balance, Oxides, Dust, NoEntry}
-use Rattle.rules.specs.OnPaper.{OnPaper, waterOnPaper, recordOnPaper, coefficientsOnPaper}
+use Rattle.rules.specs.OnPaper.{OnPaper, recordOnPaper, coefficientsOnPaper}
 
 -- answers that are read back and say the same are one
 pub read-back : {A : Type 0} (paper : A → OnPaper) (back : OnPaper → A) → ((r : A) → back (paper r) ≡ r) → (r s : A) → paper r ≡ paper s → r ≡ s
@@ -22,7 +20,7 @@ read-back paper back law r s e = sym (law r) ∙ ap back e ∙ law s
 survey-from : List ℕ → Survey
 survey-from v = record { hour = getD v 0 0; pair = record { concentration = getD v 1 0; flow = getD v 2 0 } }
 
-water-from : ℕ → List ℕ → Water
+water-from : ℕ → List ℕ → Record
 water-from kind v =
     pick (eqb kind 9) (OfOutfallHead (record { outfall = getD v 0 0; pollutant = getD v 1 0; days = getD v 2 0 }))
     (pick (eqb kind 10) (OfOutfallDay (record { day = getD v 0 0; state = getD v 1 0; pair = record { concentration = getD v 2 0; flow = getD v 3 0 } }))
@@ -37,10 +35,10 @@ record-from (kind ∷ v) =
     (pick (eqb kind 3) (OfEnforcement (survey-from v))
     (pick (eqb kind 4) (OfPlant (survey-from v))
     (pick (eqb kind 5) (OfBatch (record { kg = getD v 0 0; sulphur = getD v 1 0; ash = getD v 2 0 }))
-    (pick (eqb kind 6) OfEnd (OfWater (water-from kind v)))))))
+    (pick (eqb kind 6) OfEnd (water-from kind v))))))
 
 record-back : (r : Record) → record-from (recordOnPaper r .values) ≡ r
-unfolding recordOnPaper waterOnPaper record-from water-from survey-from pick
+unfolding recordOnPaper record-from water-from survey-from pick
 record-back Bad = refl
 record-back (OfHead h) = refl
 record-back (OfDay m) = refl
@@ -48,10 +46,10 @@ record-back (OfEnforcement s) = refl
 record-back (OfPlant s) = refl
 record-back (OfBatch b) = refl
 record-back OfEnd = refl
-record-back (OfWater (OfOutfallHead o)) = refl
-record-back (OfWater (OfOutfallDay d)) = refl
-record-back (OfWater (OfOutfallEnforcement s)) = refl
-record-back (OfWater (OfOutfallPlant s)) = refl
+record-back (OfOutfallHead o) = refl
+record-back (OfOutfallDay d) = refl
+record-back (OfOutfallEnforcement s) = refl
+record-back (OfOutfallPlant s) = refl
 
 pub record-only : (r s : Record) → recordOnPaper r ≡ recordOnPaper s → r ≡ s
 record-only r s e = read-back recordOnPaper (λ p. record-from (p .values)) record-back r s e

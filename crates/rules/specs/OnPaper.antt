@@ -2,9 +2,7 @@
 use Prim.Native.Nat.{ℕ}
 use mathlib.Core.List.{List, [], _∷_}
 use Rattle.rules.specs.declared.Record.{Record}
-use Rattle.rules.specs.declared.Record.the-variants.{Bad, OfHead, OfDay, OfEnforcement, OfPlant, OfBatch, OfEnd, OfWater}
-use Rattle.rules.specs.declared.Water.{Water}
-use Rattle.rules.specs.declared.Water.the-variants.{OfOutfallHead, OfOutfallDay, OfOutfallEnforcement, OfOutfallPlant}
+use Rattle.rules.specs.declared.Record.the-variants.{Bad, OfHead, OfDay, OfEnforcement, OfPlant, OfBatch, OfEnd, OfOutfallHead, OfOutfallDay, OfOutfallEnforcement, OfOutfallPlant}
 use Rattle.rules.specs.declared.Coefficients.{Coefficients}
 use Rattle.rules.specs.declared.Coefficients.the-variants.{Balance, Oxides, Dust, NoEntry}
 
@@ -21,14 +19,7 @@ saysNo number = record { number = number; values = [] }
 abbrev pub says : List ℕ → OnPaper
 says values = record { number = 0; values = values }
 
--- a record of an outfall: its kind and its body
-unfoldable pub waterOnPaper : Water → OnPaper
-waterOnPaper (OfOutfallHead o) = says (9 ∷ o .outfall ∷ o .pollutant ∷ o .days ∷ [])
-waterOnPaper (OfOutfallDay d) = says (10 ∷ d .day ∷ d .state ∷ d .pair .concentration ∷ d .pair .flow ∷ [])
-waterOnPaper (OfOutfallEnforcement s) = says (11 ∷ s .hour ∷ s .pair .concentration ∷ s .pair .flow ∷ [])
-waterOnPaper (OfOutfallPlant s) = says (12 ∷ s .hour ∷ s .pair .concentration ∷ s .pair .flow ∷ [])
-
--- a record: its kind and its body, in the order of the table of kinds; a day's readings stay in the file. 1 is "record cut short, unknown kind, wrong
+-- a record: its kind and its body, in the order of the table of kinds; the readings of a stack's day stay in the file. 1 is "record cut short, unknown kind, wrong
 -- length for its kind"
 unfoldable pub recordOnPaper : Record → OnPaper
 recordOnPaper Bad = saysNo 1
@@ -39,7 +30,10 @@ recordOnPaper (OfEnforcement s) = says (3 ∷ s .hour ∷ s .pair .concentration
 recordOnPaper (OfPlant s) = says (4 ∷ s .hour ∷ s .pair .concentration ∷ s .pair .flow ∷ [])
 recordOnPaper (OfBatch b) = says (5 ∷ b .kg ∷ b .sulphur ∷ b .ash ∷ [])
 recordOnPaper OfEnd = says (6 ∷ [])
-recordOnPaper (OfWater w) = waterOnPaper w
+recordOnPaper (OfOutfallHead o) = says (9 ∷ o .outfall ∷ o .pollutant ∷ o .days ∷ [])
+recordOnPaper (OfOutfallDay d) = says (10 ∷ d .day ∷ d .state ∷ d .pair .concentration ∷ d .pair .flow ∷ [])
+recordOnPaper (OfOutfallEnforcement s) = says (11 ∷ s .hour ∷ s .pair .concentration ∷ s .pair .flow ∷ [])
+recordOnPaper (OfOutfallPlant s) = says (12 ∷ s .hour ∷ s .pair .concentration ∷ s .pair .flow ∷ [])
 
 -- what the tables have: the formula, 4 or 5, and what it takes: q and K, the coefficient of oxides, a and b of dust. 7 is "method 3 or 4 with no table
 -- entry"

@@ -13,7 +13,6 @@ pub mod Standing
 pub mod Ending
 pub mod Outfalls
 pub mod Takes
-pub mod Dispatch
 pub mod Going
 pub mod Promises
 pub mod Only

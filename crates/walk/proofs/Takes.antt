@@ -9,11 +9,11 @@ use Rattle.law.specs.Numbers.{hoursOfDay, mostDays, mostHours, mostLines, mostS
 use Rattle.rules.specs.declared.Head.{Head}
 use Rattle.rules.specs.declared.Masks.{Masks}
 use Rattle.rules.specs.declared.Record.{Record}
-use Rattle.rules.specs.declared.Record.the-variants.{Bad, OfHead, OfDay, OfEnforcement, OfPlant, OfBatch, OfEnd, OfWater}
-use Rattle.rules.specs.declared.Water.{Water}
-use Rattle.rules.specs.declared.Water.the-variants.{OfOutfallHead, OfOutfallDay, OfOutfallEnforcement, OfOutfallPlant}
+use Rattle.rules.specs.declared.Record.the-variants.{Bad, OfHead, OfDay, OfEnforcement, OfPlant, OfBatch, OfEnd, OfOutfallHead, OfOutfallDay, OfOutfallEnforcement, OfOutfallPlant}
 use Rattle.rules.specs.declared.Survey.{Survey}
 use Rattle.rules.specs.declared.Batch.{Batch}
+use Rattle.rules.specs.declared.Outfall.{Outfall}
+use Rattle.rules.specs.declared.WaterDay.{WaterDay}
 use Rattle.rules.specs.declared.View.{View}
 use Rattle.rules.specs.declared.Coefficients.{Coefficients}
 use Rattle.rules.specs.declared.Coefficients.the-variants.{Balance, Oxides, Dust, NoEntry}
@@ -29,7 +29,7 @@ use lib.Dec.{eqb}
 use Rattle.law.proofs.Tests.{pick-case}
 use Rattle.rules.specs.Judge.{fine, lineMethod, judgeRecord, judgeReadings}
 use Rattle.rules.proofs.Faults.{Stands, stands-zero}
-use Rattle.rules.specs.Walk.{Stand, Between, Inside, InWater, viewOf, runsOf, taken, takenBetween, takenInside, takenInWater, waterBetween, waterInside}
+use Rattle.rules.specs.Walk.{Stand, Between, Inside, InWater, viewOf, runsOf, taken, takenBetween, takenInside, takenInWater}
 use Rattle.rules.proofs.Records.{day-in}
 use Rattle.day.proofs.Laws.{PairAccepted}
 use Rattle.judge.proofs.Laws.{SurveyOk, EndOk, readings-stand, head-ok, day-ok, enforcement-ok, plant-ok, batch-ok, end-ok, bad-refused, outfall-ok, water-day-ok, day-enforcement-ok, day-plant-ok}
@@ -37,7 +37,7 @@ use Rattle.hours.proofs.Laws.{running-period, missing-period}
 use Rattle.walk.specs.declared.books.Sums.{Sums}
 use Rattle.walk.specs.declared.take.Taken.{Taken}
 use Rattle.walk.specs.Books.{Open, inOpen, Done, Kept}
-use Rattle.walk.specs.Taking.{HeadTaken, DayReady, DayTaken, SurveyReady, EnforcementTaken, PlantTaken, BatchTaken, EndReady, EndTaken, CloseReady, Closed, WaterDayReady, WaterEndReady, WaterEndTaken, WaterReady, WaterTaken}
+use Rattle.walk.specs.Taking.{HeadTaken, DayReady, DayTaken, SurveyReady, EnforcementTaken, PlantTaken, BatchTaken, EndReady, EndTaken, CloseReady, Closed, WaterDayReady, WaterDayTaken, DayEnforcementTaken, DayPlantTaken, WaterEndReady, WaterEndTaken}
 use Rattle.walk.specs.Walking.{Ready, Took}
 use Rattle.walk.proofs.Standing.{kept-head, kept-day, kept-enforcement, kept-plant, kept-batch}
 use Rattle.walk.proofs.Ending.{method-is, cells-most, kept-end}
@@ -441,14 +441,30 @@ module _ (bytes : List ℕ) (v : View) (s : Sums) (o : Open) (d : Done) where
         weight = day-weights x done y .1;
       }) k
 
-  pub ready-water : (stand : Stand) (r : Record) (w : Water) → r ≡ OfWater w → Ready stand bytes r v s o d → WaterReady w v s (o .states) (o .concentrations) (o .flows)
-  unfolding viewOf asHead
-  ready-water stand r (OfOutfallHead h) q k =
-      between-lines stand v (k .kept .view) (outfall-ok v (runsOf stand) h (judged stand r (OfWater (OfOutfallHead h)) q k) .outside)
+  -- ---- the head of an outfall
+  pub ready-outfall : (stand : Stand) (r : Record) (h : Outfall) → r ≡ OfOutfallHead h → Ready stand bytes r v s o d
+      → (s .used ≤ mostHours) × (length (o .concentrations) ≡ mostHours) × (length (o .flows) ≡ mostHours)
+  ready-outfall stand r h q k =
+      between-lines stand v (k .kept .view) (outfall-ok v (runsOf stand) h (judged stand r (OfOutfallHead h) q k) .outside)
       (λ a. Kept a v s o d → (s .used ≤ mostHours) × (length (o .concentrations) ≡ mostHours) × (length (o .flows) ≡ mostHours))
       (λ done y. (y .books .usedMost, y .long .concentrations, y .long .flows)) (k .kept)
-  ready-water stand r (OfOutfallDay t) q k =
-      let ok = water-day-ok v (runsOf stand) t (judged stand r (OfWater (OfOutfallDay t)) q k) in
+
+  pub took-outfall : (stand : Stand) (r : Record) (h : Outfall) (g : Head) (flags' conc' flow' : List ℕ) (u : Taken) → r ≡ OfOutfallHead h → g ≡ asHead h → Ready stand bytes r v s o d
+      → HeadTaken v s g true (o .flags) (o .concentrations) (o .flows) flags' conc' flow' u → Took stand bytes r u (inOpen (o .runs) (o .measured) (o .states) flags' conc' flow') d
+  unfolding taken takenBetween judgeReadings
+  took-outfall stand r h g flags' conc' flow' u q p k e =
+      let ok = outfall-ok v (runsOf stand) h (judged stand r (OfOutfallHead h) q k) in
+      took-other stand r (OfOutfallHead h) u _ d q (e .faults) refl
+      (between-lines stand v (k .kept .view) (ok .outside) (λ a. Kept a v s o d → Kept (taken a bytes (OfOutfallHead h)) (u .view) (u .sums) (inOpen (o .runs) (o .measured) (o .states) flags' conc' flow') d)
+      (λ done y.
+      kept-outfall done v s h o d flags' conc' flow' u y (ok .days-most) (omega (arith, ok .pollutant-least), ok .pollutant-most) (lines-left done v (y .view) (ok .room))
+      (subst (λ (w : Head). HeadTaken v s w true (o .flags) (o .concentrations) (o .flows) flags' conc' flow' u) p e)) (k .kept))
+
+  -- ---- a day of an outfall
+  pub ready-water-day : (stand : Stand) (r : Record) (t : WaterDay) → r ≡ OfOutfallDay t → Ready stand bytes r v s o d → WaterDayReady v t (o .concentrations) (o .flows)
+  unfolding viewOf asHead
+  ready-water-day stand r t q k =
+      let ok = water-day-ok v (runsOf stand) t (judged stand r (OfOutfallDay t) q k) in
       in-water stand v (k .kept .view) (ok .inside) (λ a. Kept a v s o d → WaterDayReady v t (o .concentrations) (o .flows))
       (λ x done y.
       let e = y .view in
@@ -462,58 +478,48 @@ module _ (bytes : List ℕ) (v : View) (s : Sums) (o : Open) (d : Done) where
         running = omega (arith, ap (λ (w : View). w .running) e, running-most x, b .days, b .period);
         missing = omega (arith, ap (λ (w : View). w .missing) e, missing-most x, b .days, b .period);
       }) (k .kept)
-  ready-water stand r (OfOutfallEnforcement t) q k =
-      ready-day-survey stand t (v .enforcement .count) (omega arith) (day-enforcement-ok v (runsOf stand) t (judged stand r (OfWater (OfOutfallEnforcement t)) q k) .1) (k .kept)
-  ready-water stand r (OfOutfallPlant t) q k = ready-day-survey stand t (v .plant .count) (omega arith) (day-plant-ok v (runsOf stand) t (judged stand r (OfWater (OfOutfallPlant t)) q k)) (k .kept)
 
-  -- each as it is taken in
-  abbrev afterWater : List ℕ → List ℕ → List ℕ → List ℕ → List ℕ → Open
-  afterWater runs' states' flags' conc' flow' = inOpen runs' (o .measured) states' flags' conc' flow'
+  pub took-water-day : (stand : Stand) (r : Record) (t : WaterDay) (runs' states' conc' flow' : List ℕ) (u : Taken) → r ≡ OfOutfallDay t → Ready stand bytes r v s o d
+      → WaterDayTaken v s t (o .runs) (o .states) (o .concentrations) (o .flows) runs' states' conc' flow' u → Took stand bytes r u (inOpen runs' (o .measured) states' (o .flags) conc' flow') d
+  unfolding taken takenInWater judgeReadings viewOf asHead
+  took-water-day stand r t runs' states' conc' flow' u q k e =
+      let ok = water-day-ok v (runsOf stand) t (judged stand r (OfOutfallDay t) q k) in
+      took-other stand r (OfOutfallDay t) u _ d q (e .faults) refl
+      (in-water stand v (k .kept .view) (ok .inside) (λ a. Kept a v s o d → Kept (taken a bytes (OfOutfallDay t)) (u .view) (u .sums) (inOpen runs' (o .measured) states' (o .flags) conc' flow') d)
+      (λ x done y.
+      kept-water-day x done v s t o d runs' states' conc' flow' u y (omega (arith, ok .room, ap (λ (w : View). w .days) (y .view), ap (λ (w : View). w .head .days) (y .view)))
+      (ok .turn ∙ ap (λ (w : View). w .days) (y .view)) (ok .fields) e) (k .kept))
 
-  kept-by-water : (stand : Stand) (r : Record) (w : Water) (runs' states' flags' conc' flow' : List ℕ) (u : Taken) → r ≡ OfWater w → Ready stand bytes r v s o d
-      → WaterTaken w v s (o .runs) (o .states) (o .flags) (o .concentrations) (o .flows) runs' states' flags' conc' flow' u
-      → (u .fault ≡ fine) × Kept (taken stand bytes (OfWater w)) (u .view) (u .sums) (afterWater runs' states' flags' conc' flow') d
-  unfolding taken takenBetween takenInWater waterBetween waterInside viewOf asHead
-  kept-by-water stand r (OfOutfallHead h) runs' states' flags' conc' flow' u q k (e, er, es) =
-      let ok = outfall-ok v (runsOf stand) h (judged stand r (OfWater (OfOutfallHead h)) q k) in (
-        e .faults,
-        subst₂ (λ (a b : List ℕ). Kept (taken stand bytes (OfWater (OfOutfallHead h))) (u .view) (u .sums) (afterWater a b flags' conc' flow') d) (sym er) (sym es)
-            (between-lines stand v (k .kept .view) (ok .outside) (λ a. Kept a v s o d → Kept (taken a bytes (OfWater (OfOutfallHead h))) (u .view) (u .sums) (afterWater (o .runs) (o .states) flags' conc' flow') d)
-            (λ done y. kept-outfall done v s h o d flags' conc' flow' u y (ok .days-most) (omega (arith, ok .pollutant-least), ok .pollutant-most) (lines-left done v (y .view) (ok .room)) e) (k .kept)),
-      )
-  kept-by-water stand r (OfOutfallDay t) runs' states' flags' conc' flow' u q k (e, ef) =
-      let ok = water-day-ok v (runsOf stand) t (judged stand r (OfWater (OfOutfallDay t)) q k) in (
-        e .faults,
-        subst (λ (a : List ℕ). Kept (taken stand bytes (OfWater (OfOutfallDay t))) (u .view) (u .sums) (afterWater runs' states' a conc' flow') d) (sym ef)
-            (in-water stand v (k .kept .view) (ok .inside) (λ a. Kept a v s o d → Kept (taken a bytes (OfWater (OfOutfallDay t))) (u .view) (u .sums) (afterWater runs' states' (o .flags) conc' flow') d)
-            (λ x done y. kept-water-day x done v s t o d runs' states' conc' flow' u y (omega (arith, ok .room, ap (λ (w : View). w .days) (y .view), ap (λ (w : View). w .head .days) (y .view))) (ok .turn ∙ ap (λ (w : View). w .days) (y .view)) (ok .fields) e) (k .kept)),
-      )
-  kept-by-water stand r (OfOutfallEnforcement t) runs' states' flags' conc' flow' u q k (e, er) =
-      let ok = day-enforcement-ok v (runsOf stand) t (judged stand r (OfWater (OfOutfallEnforcement t)) q k) in (
-        e .faults,
-        subst (λ (a : List ℕ). Kept (taken stand bytes (OfWater (OfOutfallEnforcement t))) (u .view) (u .sums) (afterWater a states' flags' conc' flow') d) (sym er)
-            (in-water stand v (k .kept .view) (ok .1 .inside) (λ a. Kept a v s o d → Kept (taken a bytes (OfWater (OfOutfallEnforcement t))) (u .view) (u .sums) (afterWater (o .runs) states' flags' conc' flow') d)
-            (λ x done y.
-            let f = day-survey-facts x done t (y .view) (ok .1) in
-            kept-day-enforcement x done v s t o d y (f .day) (f .all-days) (f .room) (f .pair) states' flags' conc' flow' u
-            (empty-of (x .plant) (sym (survey-count (x .plant)) ∙ sym (ap (λ (w : View). w .plant .count) (y .view)) ∙ ok .0)) e) (k .kept)),
-      )
-  kept-by-water stand r (OfOutfallPlant t) runs' states' flags' conc' flow' u q k (e, er, ef) =
-      let ok = day-plant-ok v (runsOf stand) t (judged stand r (OfWater (OfOutfallPlant t)) q k) in (
-        e .faults,
-        subst₂ (λ (a b : List ℕ). Kept (taken stand bytes (OfWater (OfOutfallPlant t))) (u .view) (u .sums) (afterWater a states' b conc' flow') d) (sym er) (sym ef)
-            (in-water stand v (k .kept .view) (ok .inside) (λ a. Kept a v s o d → Kept (taken a bytes (OfWater (OfOutfallPlant t))) (u .view) (u .sums) (afterWater (o .runs) states' (o .flags) conc' flow') d)
-            (λ x done y.
-            let f = day-survey-facts x done t (y .view) ok in
-            kept-day-plant x done v s t o d y (f .day) (f .all-days) (f .room) (f .pair) states' conc' flow' u e) (k .kept)),
-      )
+  -- ---- surveys of an outfall
+  pub ready-day-enforcement : (stand : Stand) (r : Record) (t : Survey) → r ≡ OfOutfallEnforcement t → Ready stand bytes r v s o d → SurveyReady t (v .enforcement .count) (lacksOn (o .states) (t .hour)) v s
+  ready-day-enforcement stand r t q k =
+      ready-day-survey stand t (v .enforcement .count) (omega arith) (day-enforcement-ok v (runsOf stand) t (judged stand r (OfOutfallEnforcement t) q k) .1) (k .kept)
 
-  pub took-water : (stand : Stand) (r : Record) (w : Water) (runs' states' flags' conc' flow' : List ℕ) (u : Taken) → r ≡ OfWater w → Ready stand bytes r v s o d
-      → WaterTaken w v s (o .runs) (o .states) (o .flags) (o .concentrations) (o .flows) runs' states' flags' conc' flow' u → Took stand bytes r u (afterWater runs' states' flags' conc' flow') d
-  unfolding judgeReadings
-  took-water stand r w runs' states' flags' conc' flow' u q k e =
-      let b = kept-by-water stand r w runs' states' flags' conc' flow' u q k e in
-      took-other stand r (OfWater w) u _ d q (b .0) refl (b .1)
+  pub took-day-enforcement : (stand : Stand) (r : Record) (t : Survey) (states' flags' conc' flow' : List ℕ) (u : Taken) → r ≡ OfOutfallEnforcement t → Ready stand bytes r v s o d
+      → DayEnforcementTaken v s t (o .states) (o .flags) (o .concentrations) (o .flows) states' flags' conc' flow' u → Took stand bytes r u (inOpen (o .runs) (o .measured) states' flags' conc' flow') d
+  unfolding taken takenInWater judgeReadings viewOf
+  took-day-enforcement stand r t states' flags' conc' flow' u q k e =
+      let ok = day-enforcement-ok v (runsOf stand) t (judged stand r (OfOutfallEnforcement t) q k) in
+      took-other stand r (OfOutfallEnforcement t) u _ d q (e .faults) refl
+      (in-water stand v (k .kept .view) (ok .1 .inside) (λ a. Kept a v s o d → Kept (taken a bytes (OfOutfallEnforcement t)) (u .view) (u .sums) (inOpen (o .runs) (o .measured) states' flags' conc' flow') d)
+      (λ x done y.
+      let f = day-survey-facts x done t (y .view) (ok .1) in
+      kept-day-enforcement x done v s t o d y (f .day) (f .all-days) (f .room) (f .pair) states' flags' conc' flow' u
+      (empty-of (x .plant) (sym (survey-count (x .plant)) ∙ sym (ap (λ (w : View). w .plant .count) (y .view)) ∙ ok .0)) e) (k .kept))
+
+  pub ready-day-plant : (stand : Stand) (r : Record) (t : Survey) → r ≡ OfOutfallPlant t → Ready stand bytes r v s o d → SurveyReady t (v .plant .count) (lacksOn (o .states) (t .hour)) v s
+  ready-day-plant stand r t q k = ready-day-survey stand t (v .plant .count) (omega arith) (day-plant-ok v (runsOf stand) t (judged stand r (OfOutfallPlant t) q k)) (k .kept)
+
+  pub took-day-plant : (stand : Stand) (r : Record) (t : Survey) (states' conc' flow' : List ℕ) (u : Taken) → r ≡ OfOutfallPlant t → Ready stand bytes r v s o d
+      → DayPlantTaken v s t (o .states) (o .flags) (o .concentrations) (o .flows) states' conc' flow' u → Took stand bytes r u (inOpen (o .runs) (o .measured) states' (o .flags) conc' flow') d
+  unfolding taken takenInWater judgeReadings
+  took-day-plant stand r t states' conc' flow' u q k e =
+      let ok = day-plant-ok v (runsOf stand) t (judged stand r (OfOutfallPlant t) q k) in
+      took-other stand r (OfOutfallPlant t) u _ d q (e .faults) refl
+      (in-water stand v (k .kept .view) (ok .inside) (λ a. Kept a v s o d → Kept (taken a bytes (OfOutfallPlant t)) (u .view) (u .sums) (inOpen (o .runs) (o .measured) states' (o .flags) conc' flow') d)
+      (λ x done y.
+      let f = day-survey-facts x done t (y .view) ok in
+      kept-day-plant x done v s t o d y (f .day) (f .all-days) (f .room) (f .pair) states' conc' flow' u e) (k .kept))
 
   pub took-none : (stand : Stand) (r : Record) → r ≡ Bad → Ready stand bytes r v s o d → ⊥
   took-none stand r q k = bad-refused v (runsOf stand) (judged stand r Bad q k)

@@ -15,6 +15,7 @@ use Rattle.rules.specs.Lines.{StackLine, besides, surveyed, putSurveys, daysAft
 use Rattle.rules.specs.Outfalls.{Line, OfStack, headOfLine}
 use Rattle.rules.specs.Walk.{Between, Inside, noHead, viewOf, floorOf, surveysOf, begun, withDay, withEnforcement, withPlant, withBatch}
 use Rattle.walk.proofs.Hours.{after-day}
+use Rattle.walk.specs.declared.books.Sums.{Sums}
 use Rattle.walk.specs.Views.{oneMore, openedView, afterHead, afterDay, afterEnforcement, afterPlant, afterBatch, afterEnd}
 
 pub survey-count : (ss : List Survey) → surveysOf ss .count ≡ length ss
@@ -55,3 +56,7 @@ view-batch x done b = rw (add-one (length (x .batches)))
 pub view-end : (x : StackLine) (done : List Line) → afterEnd (viewOf (Inside x done)) ≡ viewOf (Between (OfStack x ∷ done))
 unfolding viewOf floorOf headOfLine surveysOf
 view-end x done = rw (add-one (length done))
+
+-- a line that is opened has nothing summed, by the cells that it uses
+pub used-by : (a b : ℕ) → a ≡ b → _≡_ {A = Sums} (record { surveyed = 0; weight = 0; sulphur = 0; ash = 0; used = a }) (record { surveyed = 0; weight = 0; sulphur = 0; ash = 0; used = b })
+used-by a b e = ap (λ (n : ℕ). record { surveyed = 0; weight = 0; sulphur = 0; ash = 0; used = n }) e

@@ -14,8 +14,6 @@ use Rattle.rules.specs.declared.View.{View}
 use Rattle.rules.specs.declared.Pair.{Pair}
 use Rattle.rules.specs.declared.Outfall.{Outfall}
 use Rattle.rules.specs.declared.WaterDay.{WaterDay}
-use Rattle.rules.specs.declared.Water.{Water}
-use Rattle.rules.specs.declared.Water.the-variants.{OfOutfallHead, OfOutfallDay, OfOutfallEnforcement, OfOutfallPlant}
 use Rattle.rules.specs.Outfalls.{asHead}
 use Rattle.rules.specs.Hours.{firstMissing}
 use Rattle.reading.specs.Reading.{reading, concentrationOf, flowOf, flaggedOf}
@@ -208,21 +206,3 @@ pub record CloseReady (v : View) (s : Sums) (runs measured states conc flow soFa
 pub record Closed (v : View) (s : Sums) (runs measured states conc flow : List ℕ) (d : Done) (conc' flow' : List ℕ) (d' : Done) (r : Taken) : Type 0 where
   pub ofStack : v .water ≡ false → EndTaken v s (periodStates runs measured (v .head .days)) (firstMissing runs measured (v .head .days)) conc flow d conc' flow' d' r
   pub ofOutfall : v .water ≡ true → WaterEndTaken v s (firstLacking states (v .head .days)) conc flow d d' r × (conc' ≡ conc) × (flow' ≡ flow)
-
--- what a record of an outfall asks, by its kind
-abbrev pub WaterReady : Water → View → Sums → List ℕ → List ℕ → List ℕ → Type 0
-WaterReady (OfOutfallHead o) v s states conc flow = (s .used ≤ mostHours) × (length conc ≡ mostHours) × (length flow ≡ mostHours)
-WaterReady (OfOutfallDay d) v s states conc flow = WaterDayReady v d conc flow
-WaterReady (OfOutfallEnforcement t) v s states conc flow = SurveyReady t (v .enforcement .count) (lacksOn states (t .hour)) v s
-WaterReady (OfOutfallPlant t) v s states conc flow = SurveyReady t (v .plant .count) (lacksOn states (t .hour)) v s
-
--- and what is then taken in
-abbrev pub WaterTaken : Water → View → Sums → List ℕ → List ℕ → List ℕ → List ℕ → List ℕ → List ℕ → List ℕ → List ℕ → List ℕ → List ℕ → Taken → Type 0
-WaterTaken (OfOutfallHead o) v s runs states flags conc flow runs' states' flags' conc' flow' r =
-    HeadTaken v s (asHead o) true flags conc flow flags' conc' flow' r × (runs' ≡ runs) × (states' ≡ states)
-WaterTaken (OfOutfallDay d) v s runs states flags conc flow runs' states' flags' conc' flow' r =
-    WaterDayTaken v s d runs states conc flow runs' states' conc' flow' r × (flags' ≡ flags)
-WaterTaken (OfOutfallEnforcement t) v s runs states flags conc flow runs' states' flags' conc' flow' r =
-    DayEnforcementTaken v s t states flags conc flow states' flags' conc' flow' r × (runs' ≡ runs)
-WaterTaken (OfOutfallPlant t) v s runs states flags conc flow runs' states' flags' conc' flow' r =
-    DayPlantTaken v s t states flags conc flow states' conc' flow' r × (runs' ≡ runs) × (flags' ≡ flags)

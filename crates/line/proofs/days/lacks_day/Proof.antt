@@ -11,11 +11,11 @@ use Rattle.line.proofs.days.lacks_day.Tie as tie
 
 returns : tie.Need-returns
 unfolding lacksOn
-returns c = pick-eq _ _ _ _ _ (c .if2 .taken) refl
+returns c = pick-eq _ _ _ _ 1 (c .if2 .taken) refl
 
 returns-2 : tie.Need-returns-2
 unfolding lacksOn
-returns-2 c = pick-not-eq _ _ _ _ _ (c .if2 .left) refl
+returns-2 c = pick-not-eq _ _ _ _ 1 (c .if2 .left) refl
 
 returns-3 : tie.Need-returns-3
 unfolding lacksOn

@@ -1,6 +1,6 @@
 -- `walk::close::line_grams` meets its contract, by the method. Assumes nothing.
 use borrow.Author.Needs.{needs}
-use mathlib.Core.Path.{_∙_, ap}
+use mathlib.Core.Path.{_≡_, _∙_, ap}
 use Prim.Native.Nat.{ℕ, _*_}
 use native.Mathlib.Nat.{mul-le-mul}
 use native.Mathlib.Omega.{arith}
@@ -23,7 +23,8 @@ grams-of-requires c κs =
 returns : tie.Need-returns
 returns c =
     let w = c .before in
-    pick-eq _ _ _ _ _ (w .before .before .if1 .taken) (c .grams-of .ensures ∙ ap (λ (n : ℕ). halvesUp n (1 * perGram)) (w .period-weight .ensures))
+    let units : c .grams-of .result ≡ halvesUp (w .period-weight .result) (1 * perGram) = c .grams-of .ensures in
+    pick-eq _ _ _ _ _ (w .before .before .if1 .taken) (units ∙ ap (λ (n : ℕ). halvesUp n (1 * perGram)) (w .period-weight .ensures))
 
 mul-grams-of : tie.Need-mul-grams-of
 mul-grams-of c = let p = c .before .before .before .before .before .before .before .pre in omega (arith, mul-le-mul (p .weight) (p .running))
