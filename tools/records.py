@@ -29,8 +29,9 @@ def days(count, reading, stopped, missing):
     return out
 
 
-def survey(kind, hour, c, l):
-    return record(kind, struct.pack('<Hff', hour, c, l))
+def survey(kind, at, c, l):
+    """Kinds 3 and 4 by the hour, 11 and 12 by the day of an outfall."""
+    return record(kind, struct.pack('<Hff', at, c, l))
 
 
 def batch(kg, sulphur, ash):
@@ -40,6 +41,19 @@ def batch(kg, sulphur, ash):
 END = record(6, b'')
 
 
+def outfall(number, pollutant, days):
+    return record(9, struct.pack('<HBB', number, pollutant, days))
+
+
+def outfall_days(count, reading, stopped, missing):
+    """The days of an outfall; reading(day) is the pair of a day that is neither stopped nor missing."""
+    out = b''
+    for d in range(count):
+        state = 0 if d in stopped else 1 if d in missing else 2
+        out += record(10, struct.pack('<BB', d, state) + (struct.pack('<ff', *reading(d)) if state == 2 else bytes(8)))
+    return out
+
+
 def spans(*pairs):
-    """The hours of stretches, each given by its first hour and how many there are."""
+    """The hours or days of stretches, each given by its first one and how many there are."""
     return {t for a, n in pairs for t in range(a, a + n)}
