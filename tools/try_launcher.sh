@@ -114,6 +114,25 @@ before_end '\014\000\007\000' >"$room/kind" && change "$example" 14 '\0315' >"$r
 { bytes "$example" 23 0 && zeros 196 && bytes "$example" 223 219; } >"$room/dark"
 { bytes "$room/dark" 8 0 && printf '\004' && bytes "$room/dark" 219 9 && printf '\016\0\005\0\001' && zeros 11; } >"$room/boiler"
 bytes "$room/dark" 223 219 >>"$room/boiler"
+# outfall 3, three days: measured, missing, stopped; an enforcement survey on day 1 and a plant survey on day 0; 20 and 30 mg/L, 1,000 m3 per day
+water=$room/water three="outfall 3, pollutant 4 (chemical oxygen demand)" end='\002\000\006\000'
+twenty='\000\000\0240\0101\000\000\0172\0104' thirty='\000\000\0360\0101\000\000\0172\0104' blank='\000\000\000\000\000\000\000\000'
+{
+    printf '%b' "\006\000\011\000\003\000\004\003\014\000\012\000\000\002$twenty\014\000\012\000\001\001$blank\014\000\012\000\002\000$blank"
+    printf '%b' "\014\000\013\000\001\000$thirty\014\000\014\000\000\000$twenty$end"
+} >"$water"
+wet="$three, day record of day" taken="$three, enforcement survey on day" own="$three, plant survey on day"
+rise="lines rise by number, stacks and outfalls together, then pollutant"
+wet_only="only a line of an outfall has kind" dry_only="only a line of a stack has kind"
+printf '3 4 1 50000 2 0 0\ntotal 0 0 0 50000 0\n' >"$room/water.out" && { cat "$example" && change "$water" 4 '\001'; } >"$room/plant"
+printf '1 2 1 126500 4 1 3\n1 4 1 50000 2 0 0\ntotal 0 126500 0 50000 0\n' >"$room/plant.out"
+{ bytes "$water" 50 0 && bytes "$water" 82 64; } >"$room/manual" && printf '3 4 2 40000 2 1 2\ntotal 0 0 0 40000 0\n' >"$room/manual.out"
+{ bytes "$water" 50 0 && printf '%b' "$end"; } >"$room/no method" && { cat "$water" && cat "$example"; } >"$room/falls"
+{ bytes "$water" 8 0 && bytes "$example" 223 14; } >"$room/hours" && before_end "\014\000\013\000\000\000$pair" >"$room/by day"
+{ bytes "$water" 78 0 && bytes "$room/fuel" 235 219 && printf '%b' "$end"; } >"$room/wet fuel" && bytes "$water" 78 0 >"$room/wet open"
+{ bytes "$water" 22 0 && bytes "$water" 82 36; } >"$room/wet turn" && change "$room/plant" 229 '\001' >"$room/no rise"
+{ bytes "$water" 50 0 && bytes "$water" 78 64 && bytes "$water" 82 50; } >"$room/plant first" && bytes "$water" 30 0 >"$room/wet cut"
+change "$water" 8 '\0313' >"$room/wet length" && change "$water" 54 '\002' >"$room/wet stopped"
 mkdir "$room/tools" && for tool in cat dirname readlink; do ln -s "$(command -v $tool)" "$room/tools"; done
 mkdir "$room/kit" && cat >"$room/kit/rt" <<END
 #!/bin/sh
@@ -133,6 +152,10 @@ done
 # ---- figures stated
 expect "a quarter" 0 samples/quarter.out '' launch account samples/quarter.rec
 expect "the example" 0 "$stated" '' launch account "$example"
+expect "a plant, a stack and an outfall" 0 samples/plant.out '' launch account samples/plant.rec
+expect "an outfall, a missing day with a survey" 0 "$room/water.out" '' launch account "$water"
+expect "an outfall, a missing day without" 0 "$room/manual.out" '' launch account "$room/manual"
+expect "a stack, and an outfall of the same number" 0 "$room/plant.out" '' launch account "$room/plant"
 expect "65,536 bytes" 0 crates/account/stdout '' launch account crates/account/stdin
 expect "standard input" 0 "$stated" '' launch account <"$example"
 expect "- for standard input" 0 "$stated" '' launch account - <"$example"
@@ -153,7 +176,7 @@ else skip "a terminal" "there is no program script here"; fi
 # ---- refusals of a record or a file
 refused "a cut file" 1 14 "$one, day record of day 0: the file has only 86 of its 205 bytes" "$room/cut"
 refused "a text" 1 0 "no record file at all" README.md
-refused "an unknown kind" 1 219 "$one, after the day record of day 0: its kind would be 7, and must be 1 to 6" "$room/kind"
+refused "an unknown kind" 1 219 "$one, after the day record of day 0: its kind would be 7, and must be 1 to 6 or 9 to 12" "$room/kind"
 refused "a wrong length" 1 14 "$one, day record of day 0: its length is 205, and must be 203" "$room/length"
 refused "a line feed at the end" 1 223 "after the end record of $one: no more than 1 byte is left there" "$room/feed"
 refused "a last line not closed" 2 219 "$one, the file's end, after the day record of day 0" "$room/open"
@@ -162,13 +185,26 @@ refused "a file put behind itself" 2 223 "$one, head, after the end record of $o
 refused "a survey in a stopped hour" 5 219 "$one, enforcement survey at hour 23 of the period (day 0, hour 23)" "$room/stopped"
 refused "fuel, and no batch" 6 219 "$one, end record" "$room/dark"
 refused "fuel, and no table entry" 7 235 "$one, end record: furnace 4, coal 4, 300 MW, volatile mark 1" "$room/boiler"
+refused "an outfall's file, cut" 1 22 "$wet 1: the file has only 8 of its 14 bytes" "$room/wet cut"
+refused "an outfall's day as long as a stack's" 1 8 "$wet 0: its length is 203, and must be 12, as its kind is 10" "$room/wet length"
+refused "a stack's day in an outfall's line" 2 8 "$wet 0, after the head: $dry_only 2" "$room/hours"
+refused "fuel in an outfall's line" 2 78 "$three, fuel batch number 1, after the plant survey on day 0: $dry_only 5" "$room/wet fuel"
+refused "an outfall's survey in a stack's line" 2 219 "$one, enforcement survey on day 0, after the day record of day 0: $wet_only 11" "$room/by day"
+refused "a stack after an outfall of a higher number" 2 82 "$one, head, after the end record of $three: $rise" "$room/falls"
+refused "an outfall behind its stack, with a stack's pollutant" 2 223 "outfall 1, head, after the end record of $one: $rise, which is 1 here" "$room/no rise"
+refused "an outfall's day out of turn" 2 22 "$wet 2, after the day record of day 0" "$room/wet turn"
+refused "an outfall's enforcement survey after the plant's" 2 64 "$taken 1, after the plant survey on day 0" "$room/plant first"
+refused "an outfall's line not closed" 2 78 "$three, the file's end, after the plant survey on day 0" "$room/wet open"
+refused "a survey on a stopped day" 5 50 "$taken 2" "$room/wet stopped"
+refused "no method left" 18 50 "$three, end record: running days 2, missing days 1, the first of them day 1, and no survey" "$room/no method"
+refused "no method left, what to do" 18 50 "add surveys, of which one on any running day is enough" "$room/no method"
 refused "65,537 bytes" 13 0 "65,536 bytes" "$room/65537"
 refused "a file for the library" 13 0 "65,536 bytes" samples/over.rec
 expect "input without end" 1 samples/over.out "65,536 bytes" endless launch account
 expect "a refusal, standard error closed" 1 samples/over.out '' no_stderr launch account samples/over.rec
 
 # ---- refusals of a field
-field "pollutant 4" "$example" 6 '\004' 14 6 "stack 1, head: pollutant is 4, and must be 1 to 3"
+field "pollutant 4" "$example" 6 '\004' 14 6 "stack 1, head: pollutant is 4, and must be 1 to 3 under a stack's head"
 field "automatic required 2" "$example" 7 '\002' 14 7 "$one, head: automatic required is 2, and must be 0 or 1"
 field "furnace 0" "$example" 8 '\000' 14 8 "$one, head: furnace is 0, and must be 1 to 4"
 field "coal 9" "$example" 9 '\011' 14 9 "$one, head: coal is 9, and must be 1 to 7"
@@ -187,6 +223,12 @@ field "sulphur 2,001" "$room/fuel" 231 '\0321\007' 16 231 "$batch 1: sulphur, in
 field "ash 10,001" "$room/fuel" 249 '\021\047' 16 249 "$batch 2: ash, in 0.01 %, is 10001, and must be 0 to 10000"
 field "survey hour 24" "$room/surveys" 223 '\030' 17 223 "$survey 24 of the period (day 1, hour 0): its hour is 24, and must be 0 to 23"
 field "plant survey hour 65,535" "$room/surveys" 237 '\0377\0377' 17 237 "$plant 65535 of the period (day 2730, hour 15): its hour is 65535"
+field "pollutant 3 of an outfall" "$water" 6 '\003' 14 6 "outfall 3, head: pollutant is 3, and must be 4 or 5 under an outfall's head"
+field "93 days of an outfall" "$water" 7 '\0135' 14 7 "$three, head: number of days is 93, and must be 1 to 92"
+field "pollutant 6 in the second line" "$room/plant" 229 '\006' 14 229 "outfall 1, head: pollutant is 6, and must be 4 or 5"
+field "state 3" "$water" 41 '\003' 15 41 "$wet 2: its state is 3, and must be 0 to 2 (0 stopped, 1 missing, 2 measured)"
+field "survey day 3" "$water" 54 '\003' 17 54 "$taken 3: its day is 3, and must be 0 to 2, as the head's days are 3"
+field "plant survey day 65,535" "$water" 68 '\0377\0377' 17 68 "$own 65535: its day is 65535, and must be 0 to 2"
 
 # ---- refusals of a reading
 is="is measured, and its" most="and must be at most" bytes="has bytes other than zero"
@@ -202,6 +244,12 @@ field "concentration, hour 23 stopped" "$example" 211 '\001' 4 211 "$day: hour 2
 field "flow, hour 23 stopped" "$example" 218 '\0200' 4 215 "$day: hour 23 $stopped flow $bytes"
 field "concentration of a survey" "$room/surveys" 228 '\0301' 4 225 "$survey 0 of the period (day 0, hour 0): concentration is negative: -20 mg/m3"
 field "flow of a survey" "$room/surveys" 243 '\000\000\0300\0377' 4 243 "$plant 1 of the period (day 0, hour 1): flow is not a number"
+field "concentration of a day negative" "$water" 17 '\0301' 4 14 "$wet 0: the day $is concentration is negative: -20 mg/L"
+field "flow of a day over" "$water" 18 '\0201\0226\0230\0112' 4 18 "$wet 0: the day $is flow is 5000000.5 m3 per day, $most 5,000,000"
+field "concentration, day 1 missing" "$water" 31 '\0200' 4 28 "$wet 1: the day $missing concentration $bytes"
+field "flow, day 2 stopped" "$water" 46 '\001' 4 46 "$wet 2: the day $stopped flow $bytes"
+field "concentration of a survey by day over" "$water" 56 '\006\0100\034\0106' 4 56 "$taken 1: concentration is 10000.0059 mg/L, $most 10,000.00"
+field "flow of a survey by day" "$water" 74 '\000\000\0300\0377' 4 74 "$own 0: flow is not a number"
 refused "line ends turned to CR LF" 4 159 "$seven 0: hour 16" "$room/crlf"
 
 # ---- words that cannot be found, and bytes that are kept for them
