@@ -5,7 +5,7 @@
  * In the folder rust/ on x86-64, after `rt staticlib doarpezwim` in the repository root:
  *
  *     mkdir -p target
- *     cc -std=c99 -Wall -Wextra -O2 -I include -o target/one_file \
+ *     cc -std=c99 -Wall -Wextra -Wpedantic -O2 -I include -o target/one_file \
  *         examples-c/one_file.c ../target/staticlib/libdoarpezwim.a
  *     target/one_file < ../samples/example.rec
  */

@@ -1,5 +1,5 @@
 /*
- * Doarpezwim: the quarter account of a stack's emission, by document 01.
+ * Doarpezwim: the quarter account of what stacks and outfalls emit, by document 01 with requests A1 to A3.
  *
  * The three functions are proved. For every input that keeps to the rules below they end, read and write nothing but
  * what they are lent, and answer what the document says. They keep no state, allocate nothing and may be called from
@@ -23,7 +23,7 @@ extern "C" {
 #define DOARPEZWIM_VERSION_PATCH 0
 #define DOARPEZWIM_VERSION "0.4.0"
 
-/* Cells that each work slice has to have: the hours of 92 days. */
+/* Cells that each work slice has to have: the hours of 92 days, also for a file of outfalls. */
 #define DOARPEZWIM_WORK_CELLS 2208
 /* Cells of a row, as enum doarpezwim_row_cell names them. */
 #define DOARPEZWIM_ROW_CELLS 7
@@ -35,11 +35,11 @@ extern "C" {
 #define DOARPEZWIM_SURVEY_BYTES 14
 
 /*
- * Bytes of stack that a call needs: doarpezwim_account takes 32,592 and what it calls 112 more; the other two take less
+ * Bytes of stack that a call needs: doarpezwim_account takes 32,656 and what it calls 112 more; the other two take less
  * than 100. Measured, not proved: read off the machine code of libdoarpezwim.a, and seen on a stack that was painted.
  * Where memset and memcpy of the C library are bound at their first call, the loader takes some more for itself.
  */
-#define DOARPEZWIM_STACK_BYTES 32704
+#define DOARPEZWIM_STACK_BYTES 32768
 
 /* The numbers that are answered; docs/REFUSALS.md says more of each, and what to do. 3 is no longer one of them. */
 enum doarpezwim_refusal {
@@ -58,9 +58,12 @@ enum doarpezwim_refusal {
     /* Of the program `account` alone: the library takes files of any length. */
     DOARPEZWIM_INPUT_TOO_LONG = 13,
     DOARPEZWIM_HEAD_FIELD = 14,
+    /* Of an outfall the state of a day. */
     DOARPEZWIM_MASK = 15,
     DOARPEZWIM_FUEL_FIELD = 16,
+    /* Of an outfall a survey's day. */
     DOARPEZWIM_SURVEY_HOUR = 17,
+    DOARPEZWIM_NO_METHOD = 18,
     /* Of doarpezwim_panel_hour, a wrong state: the kind of hour does not exist. The number is a mask's. */
     DOARPEZWIM_UNKNOWN_KIND = 15
 };
@@ -72,8 +75,8 @@ static inline const char *doarpezwim_refusal_text(uint32_t number)
     case 0: return "accepted";
     case 1: return "a record is cut short, of an unknown kind, or not of its kind's length";
     case 2: return "a record is out of place or one too many, or the file ends inside a line";
-    case 4: return "a reading is not allowed or over its limit, or an unmeasured hour is not zero";
-    case 5: return "a survey names an hour in which the stack was stopped";
+    case 4: return "a reading is not allowed or over its limit, or an unmeasured hour or day is not zero";
+    case 5: return "a survey names an hour or day in which the stack or outfall was stopped";
     case 6: return "a line goes by fuel and has no batch";
     case 7: return "a line goes by fuel and the tables have no entry for its boiler";
     case 8: return "fewer than 7 cells a line were lent for rows";
@@ -83,9 +86,10 @@ static inline const char *doarpezwim_refusal_text(uint32_t number)
     case 12: return "the panel's state is not lawful";
     case 13: return "the input is over 65536 bytes, which is the program's limit";
     case 14: return "a field of a head is out of range";
-    case 15: return "a mask has bits past hour 23, a measured hour does not run, or a kind of hour does not exist";
+    case 15: return "a mask has bits past hour 23, a measured hour does not run, or a state is none of 0, 1, 2";
     case 16: return "a field of a fuel batch is out of range, or takes the line's fuel over 10000000000 kg";
-    case 17: return "a survey's hour is past the period";
+    case 17: return "a survey's hour or day is past the period";
+    case 18: return "no method is left: a day of the outfall is missing, and there is no survey";
     default: return "an unknown refusal";
     }
 }
@@ -102,18 +106,21 @@ enum doarpezwim_answer_cell {
     DOARPEZWIM_ANSWER_AMMONIA_NITROGEN = 7
 };
 
-/* The cells of a row. */
+/* The cells of a row. With pollutant 4 or 5 it is an outfall's and counts days, else a stack's and counts hours. */
 enum doarpezwim_row_cell {
     DOARPEZWIM_ROW_STACK = 0,
+    DOARPEZWIM_ROW_OUTFALL = 0,
     /* 1 sulphur dioxide, 2 nitrogen oxides, 3 dust, 4 chemical oxygen demand, 5 ammonia nitrogen. */
     DOARPEZWIM_ROW_POLLUTANT = 1,
-    /* 1 automatic, 2 manual, 3 mass balance, 4 coefficient. */
+    /* 1 automatic, 2 manual, 3 mass balance, 4 coefficient; of an outfall 1 or 2. */
     DOARPEZWIM_ROW_METHOD = 2,
     DOARPEZWIM_ROW_GRAMS = 3,
     DOARPEZWIM_ROW_RUNNING_HOURS = 4,
-    /* Running hours for which neither the monitor nor a survey has data. */
+    DOARPEZWIM_ROW_RUNNING_DAYS = 4,
+    /* Those of them for which neither the monitor nor a survey has data. */
     DOARPEZWIM_ROW_MISSING_HOURS = 5,
-    /* Counted from 1 through the period; 0 if no hour is missing. */
+    DOARPEZWIM_ROW_MISSING_DAYS = 5,
+    /* Counted from 1 through the period; 0 if none is missing. */
     DOARPEZWIM_ROW_FIRST_MISSING_PLUS_1 = 6
 };
 
@@ -122,16 +129,17 @@ enum doarpezwim_row_cell {
  *
  * answer: number, place, row count, and the grams of sulphur dioxide, nitrogen oxides, dust, chemical oxygen demand and
  * ammonia nitrogen. The number is returned as well. It is 0 if the file is accepted, and so is the place. Else it is 1,
- * 2, 4 to 9 or 14 to 17, and row count and grams are 0. The place is a byte offset in the file: for 4 and 14 to 17 that
- * of the first wrong field or reading, for 1, 2, 5, 6 and 7 that of the record at fault (the file's length if the file
- * ends inside a line), for 8 and 9 it is 0.
+ * 2, 4 to 9 or 14 to 18, and row count and grams are 0. The place is a byte offset in the file: for 4 and 14 to 17 that
+ * of the first wrong field or reading, for 1, 2, 5, 6, 7 and 18 that of the record at fault (the file's length if the
+ * file ends inside a line), for 8 and 9 it is 0.
  *
  * rows: accepted rows stand at its start in line order, seven cells each; the cells past them, and all cells after a
  * refusal, stay as they were. 7 x 48 cells are always enough.
  *
  * concentration, flow: work slices. After acceptance the first 2,208 cells of each hold the last line's hours, in
- * hundredths of mg/m3 and in m3/h; a surveyed hour has the survey's values, also where the monitor missed it. After a
- * refusal they are zero, but 9 leaves both slices alone. Cells past 2,208 are never written.
+ * hundredths of mg/m3 and in m3/h; a surveyed hour has the survey's values, also where the monitor missed it. If the
+ * last line is an outfall's they hold its days, cell d day d, in hundredths of mg/L and in m3 per day, and zero behind.
+ * After a refusal they are zero, but 9 leaves both slices alone. Cells past 2,208 are never written.
  */
 uint32_t doarpezwim_account(const uint8_t *file, size_t file_len, uint64_t *rows, size_t rows_len,
                             uint32_t *concentration, size_t concentration_len, uint32_t *flow, size_t flow_len,
@@ -141,7 +149,7 @@ uint32_t doarpezwim_account(const uint8_t *file, size_t file_len, uint64_t *rows
 enum doarpezwim_hour { DOARPEZWIM_STOPPED = 0, DOARPEZWIM_MISSING = 1, DOARPEZWIM_MEASURED = 2 };
 
 /*
- * Takes one hour into a panel and returns 0, or returns a refusal number and leaves the panel as it was.
+ * Takes one hour of a stack into a panel and returns 0, or returns a refusal number and leaves the panel as it was.
  *
  * A new panel is all zero. The total is the sum of c x l (hundredths of mg/m3 times m3/h), exact up to 2^53. The
  * readings, in mg/m3 and m3/h, are looked at for a measured hour only.
@@ -156,7 +164,8 @@ uint32_t doarpezwim_panel_hour(double *total, uint32_t *hours, uint32_t *missing
 /*
  * Finds the survey that governs an hour: the first 14-byte block of that hour in the enforcement slice that starts with
  * length 12 and kind 3, else the first in the plant slice with length 12 and kind 4. A tail under 14 bytes is ignored,
- * and readings are not judged. Copies the block to part and returns 14, or leaves part alone and returns 0.
+ * so are surveys of an outfall, and readings are not judged. Copies the block to part and returns 14, or leaves part
+ * alone and returns 0.
  */
 uint32_t doarpezwim_governing_survey(const uint8_t *enforcement, size_t enforcement_len, const uint8_t *plant,
                                      size_t plant_len, uint16_t hour, uint8_t part[DOARPEZWIM_SURVEY_BYTES]);

@@ -54,7 +54,7 @@ fn survey(lookup: Lookup) -> u32 {
 
 fn main() {
     let mut rng = Rng::new(SEED);
-    let mut numbers = [0; 18];
+    let mut numbers = [0; 19];
     let sizes = [(Size::Short, 900), (Size::Medium, 40), (Size::Long, 30), (Size::ManyLines, 10), (Size::Full, 2)];
     for (size, count) in sizes {
         for _ in 0..count {
@@ -62,7 +62,13 @@ fn main() {
             numbers[account(case, &mut rng) as usize] += 1;
         }
     }
-    println!("account calls by number: {numbers:?}");
+    println!("account calls by number, stacks alone: {numbers:?}");
+    let mut numbers = [0; 19];
+    for _ in 0..900 {
+        let case = Case::with_outfalls(&mut rng);
+        numbers[account(case, &mut rng) as usize] += 1;
+    }
+    println!("account calls by number, with outfalls: {numbers:?}");
     let mut numbers = [0; 18];
     for _ in 0..2_000 {
         numbers[panel(Step::generate(&mut rng)) as usize] += 1;

@@ -7,7 +7,7 @@ use std::hint::black_box;
 use std::time::{Duration, Instant};
 
 use inputs::Rng;
-use inputs::wire::{self, Day, Head, Line};
+use inputs::wire::{self, Day, Head, Line, WaterDay, WaterHead, WaterLine};
 
 const SEED: u64 = 0x0d0a_29e2_0005;
 const SAMPLES: usize = 301;
@@ -50,7 +50,17 @@ fn line(number: u16, days: u8, dark: std::ops::Range<usize>, rng: &mut Rng) -> L
     Line { head, days: of_line, enforcement: Vec::new(), plant: Vec::new(), batches: Vec::new() }
 }
 
-fn cases() -> [Case; 4] {
+/// The line of an outfall, 92 days, all measured.
+fn outfall(rng: &mut Rng) -> WaterLine {
+    let head = WaterHead { outfall: 1, pollutant: 4, days: 92 };
+    let measured = |day| {
+        let concentration = 20.0 + rng.below(400_000) as f32 / 1_024.0;
+        WaterDay::measured(day, concentration, 5_000.0 + rng.below(400_000) as f32 / 3.0)
+    };
+    WaterLine { head, days: (0..head.days).map(measured).collect(), enforcement: Vec::new(), plant: Vec::new() }
+}
+
+fn cases() -> [Case; 5] {
     let mut rng = Rng::new(SEED);
     let mut file = |lines: u16, days: u8, dark: std::ops::Range<usize>| {
         let lines: Vec<Line> = (0..lines).map(|number| line(number, days, dark.clone(), &mut rng)).collect();
@@ -61,6 +71,7 @@ fn cases() -> [Case; 4] {
         Case { name: "lines", text: "48 such lines", file: file(48, 92, 0..0) },
         Case { name: "dark", text: "92 days, 500 hours dark in one gap", file: file(1, 92, 900..1_400) },
         Case { name: "days", text: "48 lines of one day", file: file(48, 1, 0..0) },
+        Case { name: "water", text: "an outfall, 92 days, all measured", file: wire::file(&[outfall(&mut rng)]) },
     ]
 }
 
@@ -99,9 +110,9 @@ impl Times {
 }
 
 /// Times of both on each case; samples alternate, so that a busy machine slows all of them alike.
-fn measure(cases: &[Case; 4]) -> [[Times; 2]; 4] {
+fn measure(cases: &[Case; 5]) -> [[Times; 2]; 5] {
     let mut lent = Lent::new();
-    let mut samples: [[Vec<Duration>; 2]; 4] = Default::default();
+    let mut samples: [[Vec<Duration>; 2]; 5] = Default::default();
     for _ in 0..SAMPLES {
         for (case, samples) in cases.iter().zip(&mut samples) {
             let calls = (200_000 / case.file.len() as u32).clamp(1, 100);
@@ -157,7 +168,7 @@ fn main() {
         _ => None,
     };
     if done.is_none() {
-        eprintln!("usage: speed | speed callgrind line|lines|dark|days proved|reference CALLS");
+        eprintln!("usage: speed | speed callgrind line|lines|dark|days|water proved|reference CALLS");
         std::process::exit(2);
     }
 }

@@ -44,7 +44,7 @@ impl fmt::Display for Totals {
 #[derive(Clone, Debug, Default, PartialEq, Eq, Hash)]
 #[must_use]
 pub struct Account {
-    /// A row for each line, in the file's order: by stack, then by pollutant.
+    /// A row for each line, in the file's order: by the number of the stack or outfall, then by pollutant.
     pub rows: Vec<Row>,
     /// The rows' grams, summed.
     pub totals: Totals,
@@ -64,7 +64,7 @@ impl<'a> Stated<'a> {
         self.cells.iter().map(|cells| Row::of_cells(cells).expect("the proved call writes rows"))
     }
 
-    /// The rows as cells: stack, pollutant, method, grams, running, missing, first missing hour plus 1.
+    /// The rows as cells, in the order of [`Row`]'s fields; the last is the first missing hour or day plus 1, or 0.
     #[must_use]
     pub fn cells(&self) -> &'a [[u64; ROW_CELLS]] {
         self.cells
@@ -83,12 +83,12 @@ impl<'a> Stated<'a> {
 /// the wrong field where it is a field:
 ///
 /// ```
-/// use doarpezwim::{Method, Pollutant, Refusal};
+/// use doarpezwim::{Method, Pollutant, Refusal, Source};
 ///
 /// let mut file = std::fs::read("../../samples/example.rec")?;
 /// let row = doarpezwim::account(&file)?.rows[0];
-/// assert_eq!((row.stack, row.pollutant, row.method), (1, Pollutant::NitrogenOxides, Method::Automatic));
-/// assert_eq!((row.running_hours, row.missing_hours, row.first_missing_hour), (4, 1, Some(2)));
+/// assert_eq!((row.source, row.pollutant), (Source::Stack(1), Pollutant::NitrogenOxides));
+/// assert_eq!((row.method, row.running, row.missing, row.first_missing), (Method::Automatic, 4, 1, Some(2)));
 ///
 /// file.truncate(219); // The end record is lost.
 /// assert_eq!(doarpezwim::account(&file), Err(Refusal::OutOfPlace { place: 219 }));
@@ -100,7 +100,7 @@ impl<'a> Stated<'a> {
 ///
 /// # Errors
 ///
-/// A file that is not sound gives one of the refusals 1, 2, 4 to 7 and 14 to 17. 8 and 9 do not come up: enough cells
+/// A file that is not sound gives one of the refusals 1, 2, 4 to 7 and 14 to 18. 8 and 9 do not come up: enough cells
 /// are lent.
 pub fn account(file: &[u8]) -> Result<Account, Refusal> {
     let mut rows = [0; ROW_CELLS * MOST_LINES];
@@ -116,8 +116,9 @@ pub fn account(file: &[u8]) -> Result<Account, Refusal> {
 ///
 /// Afterwards the first [`WORK_CELLS`] cells of the two work slices hold the last line's hours, in hundredths of mg/m3
 /// and in m3/h: measured; surveyed, also in an hour that the monitor missed; filled under
-/// [`Method::Automatic`](crate::Method::Automatic); and zero elsewhere. After a refusal they are zero, but 9 leaves
-/// both slices alone. Cells past them are never written.
+/// [`Method::Automatic`](crate::Method::Automatic); and zero elsewhere. If the last line is an outfall's, they hold its
+/// days, cell d day d, in hundredths of mg/L and in m3 per day, none filled, and zero behind. After a refusal they are
+/// zero, but 9 leaves both slices alone. Cells past them are never written.
 ///
 /// ```
 /// use doarpezwim::{ROW_CELLS, WORK_CELLS};

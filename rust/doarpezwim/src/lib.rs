@@ -1,7 +1,7 @@
-//! The proved quarter account of a stack's emission.
+//! The proved quarter account of what stacks and outfalls emit.
 //!
-//! [`account`] states what each stack of a record file emitted of each pollutant, in grams, with the method behind the
-//! figure, or says in a [`Refusal`] what is wrong with the file, where, and what to do:
+//! [`account`] states what each stack and outfall of a record file emitted of each pollutant, in grams, with the method
+//! behind the figure, or says in a [`Refusal`] what is wrong with the file, where, and what to do:
 //!
 //! ```
 //! let file = std::fs::read("../../samples/example.rec")?;
@@ -11,13 +11,13 @@
 //! # Ok::<(), Box<dyn std::error::Error>>(())
 //! ```
 //!
-//! [`account_into`] is the same call over slices that the caller lends, [`Panel`] keeps a running total hour by hour,
-//! and [`governing_survey`] finds the survey that counts at an hour.
+//! [`account_into`] is the same call over slices that the caller lends, [`Panel`] keeps a running total of a stack hour
+//! by hour, and [`governing_survey`] finds the survey that counts at an hour.
 //!
-//! The calls are proved in Rattle and linked from a static archive. They answer what document 01 with requests A1 and
-//! A2 says for every input, read and write nothing but what they are lent, allocate nothing and keep no state. This
-//! crate adds types, and the borrow rules that the C interface cannot state; it is not proved itself. A call takes
-//! about 32 KB of stack.
+//! The calls are proved in Rattle and linked from a static archive. They answer what document 01 with requests A1 to A3
+//! says for every input, read and write nothing but what they are lent, allocate nothing and keep no state. This crate
+//! adds types, and the borrow rules that the C interface cannot state; it is not proved itself. A call takes about
+//! 32 KB of stack.
 #![warn(missing_docs)]
 
 mod account;
@@ -30,14 +30,14 @@ mod survey;
 pub use account::{Account, Stated, Totals, account, account_into};
 pub use panel::{Hour, Panel};
 pub use refusal::Refusal;
-pub use row::{Method, Pollutant, Row};
+pub use row::{Method, Pollutant, Row, Source};
 pub use survey::governing_survey;
 
-/// Cells that each work slice has to have: the hours of 92 days.
+/// Cells that each work slice has to have: the hours of 92 days, also for a file of outfalls.
 pub const WORK_CELLS: usize = 2_208;
 /// Cells of an answer: number, place, row count, and the grams of each of the five pollutants.
 pub const ANSWER_CELLS: usize = 8;
-/// Cells of one row: stack, pollutant, method, grams, running, missing, first missing hour plus 1.
+/// Cells of one row: stack or outfall, pollutant, method, grams, running, missing, first missing hour or day plus 1.
 pub const ROW_CELLS: usize = 7;
 /// Lines that a file may hold; a line gives a row.
 pub const MOST_LINES: usize = 48;

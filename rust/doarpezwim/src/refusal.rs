@@ -6,7 +6,7 @@ use std::fmt;
 /// Why a call states nothing: a variant for each number that the library answers.
 ///
 /// A place counts the file's bytes from 0. For a field or a reading (4 and 14 to 17) it is where the first wrong one
-/// starts; for 1, 2, 5, 6 and 7 where the record at fault starts, or the file's length if the file ends between two
+/// starts; for 1, 2, 5, 6, 7 and 18 where the record at fault starts, or the file's length if the file ends between two
 /// records with a line still open. As text a refusal says what is wrong and what to do:
 ///
 /// ```
@@ -32,12 +32,12 @@ pub enum Refusal {
         /// Where the record starts, or the file's length.
         place: usize,
     },
-    /// 4: a reading is not allowed or over its limit, or an hour that is not measured has bytes other than zero.
+    /// 4: a reading is not allowed or over its limit, or an hour or day that is not measured has bytes other than zero.
     BadReading {
         /// Where the first concentration or flow at fault starts; `None` from a panel.
         place: Option<usize>,
     },
-    /// 5: a survey names an hour in which the stack was stopped.
+    /// 5: a survey names an hour in which the stack was stopped, or a day on which the outfall was.
     StoppedSurvey {
         /// Where the survey starts.
         place: usize,
@@ -67,9 +67,10 @@ pub enum Refusal {
         /// Where the first wrong field starts.
         place: usize,
     },
-    /// 15: a mask has bits past hour 23, or the measured mask has hours that the run mask has not.
+    /// 15: a mask has bits past hour 23, or the measured mask has hours that the run mask has not; or the state of an
+    /// outfall's day is none of 0, 1, 2.
     Mask {
-        /// Where the run mask starts, or the measured mask if the run mask is right.
+        /// Where the run mask starts, or the measured mask if the run mask is right; or where the state stands.
         place: usize,
     },
     /// 16: a field of a fuel batch is out of range, or its kg take the line's fuel over the limit.
@@ -77,9 +78,14 @@ pub enum Refusal {
         /// Where the first wrong field starts; the line's fuel counts for the kg.
         place: usize,
     },
-    /// 17: a survey's hour is past the period.
+    /// 17: a survey's hour, or its day at an outfall, is past the period.
     SurveyHour {
-        /// Where the hour starts.
+        /// Where the hour or the day starts.
+        place: usize,
+    },
+    /// 18: no method is left for the outfall's line: a day is missing, and there is no survey.
+    NoMethod {
+        /// Where the line's end record starts.
         place: usize,
     },
 }
@@ -104,6 +110,7 @@ impl Refusal {
             Refusal::Mask { .. } => 15,
             Refusal::FuelField { .. } => 16,
             Refusal::SurveyHour { .. } => 17,
+            Refusal::NoMethod { .. } => 18,
         }
     }
 
@@ -119,7 +126,8 @@ impl Refusal {
             | Refusal::HeadField { place }
             | Refusal::Mask { place }
             | Refusal::FuelField { place }
-            | Refusal::SurveyHour { place } => Some(place),
+            | Refusal::SurveyHour { place }
+            | Refusal::NoMethod { place } => Some(place),
             Refusal::BadReading { place } => place,
             Refusal::FewRowCells
             | Refusal::FewWorkCells
@@ -144,6 +152,7 @@ impl Refusal {
             15 => Refusal::Mask { place },
             16 => Refusal::FuelField { place },
             17 => Refusal::SurveyHour { place },
+            18 => Refusal::NoMethod { place },
             _ => panic!("the archive refuses a file with {number}: it is newer than this crate"),
         }
     }
@@ -167,10 +176,10 @@ impl Refusal {
                  inside a line"
             }
             Refusal::BadReading { .. } => {
-                "a reading is not a number, infinite, negative or over its limit, or an hour that is not measured has \
-                 bytes other than zero"
+                "a reading is not a number, infinite, negative or over its limit, or an hour or day that is not \
+                 measured has bytes other than zero"
             }
-            Refusal::StoppedSurvey { .. } => "a survey names an hour in which the stack was stopped",
+            Refusal::StoppedSurvey { .. } => "a survey names an hour or day in which the stack or outfall was stopped",
             Refusal::NoBatch { .. } => "the line goes by fuel, since too many hours lack data, and it has no batch",
             Refusal::NoEntry { .. } => "the line goes by fuel, and the tables have no entry for its boiler",
             Refusal::FewRowCells => "fewer than 7 cells a line were lent for rows",
@@ -180,12 +189,14 @@ impl Refusal {
             Refusal::PanelUnlawful => "the panel's state is not lawful",
             Refusal::HeadField { .. } => "a field of a head is out of range",
             Refusal::Mask { .. } => {
-                "a mask has bits past hour 23, or the measured mask has hours that the run mask has not"
+                "a mask has bits past hour 23, the measured mask has hours that the run mask has not, or the state of \
+                 an outfall's day does not exist"
             }
             Refusal::FuelField { .. } => {
                 "a field of a fuel batch is out of range, or takes the line's fuel over 10,000,000,000 kg"
             }
-            Refusal::SurveyHour { .. } => "a survey's hour is past the period",
+            Refusal::SurveyHour { .. } => "a survey's hour or day is past the period",
+            Refusal::NoMethod { .. } => "no method is left: a day of the outfall is missing, and there is no survey",
         }
     }
 
@@ -194,9 +205,9 @@ impl Refusal {
             Refusal::CutOrUnknown { .. } => "send the file again whole, or write the record's length and kind anew",
             Refusal::OutOfPlace { .. } => "write the records in the order of docs/FORMAT.md and close each line",
             Refusal::BadReading { .. } => {
-                "correct it, or leave a survey out, or mark the hour missing with eight zero bytes"
+                "correct it, or leave a survey out, or mark the hour or day missing with eight zero bytes"
             }
-            Refusal::StoppedSurvey { .. } => "correct the survey's hour or the day's run mask",
+            Refusal::StoppedSurvey { .. } => "correct the survey's hour or day, or the day's run mask or state",
             Refusal::NoBatch { .. } => "add the line's fuel batches",
             Refusal::NoEntry { .. } => "check the head's furnace, coal, MW and mark",
             Refusal::FewRowCells => "lend 7 cells for each line; 336 are always enough",
@@ -204,9 +215,17 @@ impl Refusal {
             Refusal::PanelOver | Refusal::PanelFull => "start a new panel",
             Refusal::PanelUnlawful => "go on from a state that the panel handed back",
             Refusal::HeadField { .. } => "correct the field at its source; docs/FORMAT.md has the ranges",
-            Refusal::Mask { .. } => "set bit h for hour h, 0 to 23, and a measured bit only with its run bit",
+            Refusal::Mask { .. } => {
+                "set bit h for hour h, 0 to 23, and a measured bit only with its run bit; a state is 0 stopped, \
+                 1 missing or 2 measured"
+            }
             Refusal::FuelField { .. } => "correct the field at its source: whole kg, and hundredths of a per cent",
-            Refusal::SurveyHour { .. } => "correct the hour, 24 x day + hour from 0, or the days in the line's head",
+            Refusal::SurveyHour { .. } => {
+                "correct the hour, 24 x day + hour from 0, or the outfall's day, from 0, or the days in the line's head"
+            }
+            Refusal::NoMethod { .. } => {
+                "add what was left out: the missing days' readings, or a survey, for which any running day will do"
+            }
         }
     }
 }
@@ -229,7 +248,7 @@ mod tests {
 
     #[test]
     fn keeps_number_and_place() {
-        for number in [1, 2, 4, 5, 6, 7, 8, 9, 14, 15, 16, 17] {
+        for number in [1, 2, 4, 5, 6, 7, 8, 9, 14, 15, 16, 17, 18] {
             let refusal = Refusal::of_account(number, 205);
             assert_eq!(refusal.number(), number);
             assert_eq!(refusal.place(), (![8, 9].contains(&number)).then_some(205));
@@ -249,13 +268,18 @@ mod tests {
     #[test]
     fn says_what_is_wrong_and_what_to_do() {
         let text = Refusal::StoppedSurvey { place: 219 }.to_string();
-        let expected = "refused 5 at byte 219: a survey names an hour in which the stack was stopped; correct the \
-                        survey's hour or the day's run mask";
+        let expected = "refused 5 at byte 219: a survey names an hour or day in which the stack or outfall was \
+                        stopped; correct the survey's hour or day, or the day's run mask or state";
         assert_eq!(text, expected);
         assert_eq!(
             Refusal::HeadField { place: 9 }.to_string(),
             "refused 14 at byte 9: a field of a head is out of range; correct the field at its source; docs/FORMAT.md \
              has the ranges"
+        );
+        assert_eq!(
+            Refusal::NoMethod { place: 36 }.to_string(),
+            "refused 18 at byte 36: no method is left: a day of the outfall is missing, and there is no survey; add \
+             what was left out: the missing days' readings, or a survey, for which any running day will do"
         );
         assert_eq!(
             Refusal::PanelFull.to_string(),

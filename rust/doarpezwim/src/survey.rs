@@ -9,7 +9,7 @@ const BLOCK: usize = 14;
 ///
 /// It is the first block of that hour in `enforcement` that starts with length 12 and kind 3, else the first in `plant`
 /// that starts with length 12 and kind 4. Both slices go by blocks of 14 bytes, a tail is ignored, and readings are not
-/// judged.
+/// judged. Surveys of an outfall, kinds 11 and 12, are passed over.
 ///
 /// ```
 /// let survey = |kind, hour| [12, 0, kind, 0, hour, 0, 0, 0, 160, 65, 0, 36, 116, 73];
