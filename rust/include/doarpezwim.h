@@ -35,11 +35,11 @@ extern "C" {
 #define DOARPEZWIM_SURVEY_BYTES 14
 
 /*
- * Bytes of stack that a call needs: doarpezwim_account takes 32,656 and what it calls 112 more; the other two take less
+ * Bytes of stack that a call needs: doarpezwim_account takes 32,640 and what it calls 112 more; the other two take less
  * than 100. Measured, not proved: read off the machine code of libdoarpezwim.a, and seen on a stack that was painted.
  * Where memset and memcpy of the C library are bound at their first call, the loader takes some more for itself.
  */
-#define DOARPEZWIM_STACK_BYTES 32768
+#define DOARPEZWIM_STACK_BYTES 32752
 
 /* The numbers that are answered; docs/REFUSALS.md says more of each, and what to do. 3 is no longer one of them. */
 enum doarpezwim_refusal {
