@@ -14,7 +14,7 @@ use Rattle.reading.specs.Reading.{flaggedPair, flaggedHour}
 use Rattle.rules.specs.Hours.{measuredOf}
 use Rattle.rules.specs.declared.Survey.{Survey}
 use Rattle.line.specs.declared.surveyed.Weighed.{Weighed}
-use Rattle.line.specs.Put.{inTables, surveyC, surveyL, standing, Placed, beats}
+use Rattle.line.specs.Put.{inTables, surveyC, surveyL, standing, PutAt, beats}
 
 module _ (t : Survey) (r : FlaggedPair) (e : r ≡ flaggedHour (measuredOf (t .pair))) where
   pub concentration-is : r .concentration ≡ surveyC t
@@ -42,8 +42,8 @@ tables-are a b c d a' b' c' d' p q r s = cc
 pub adds : (w : Weighed) (c l found : ℕ) → w .count ≡ 1 → w .weight ≡ c * l → w .found ≡ found → w ≡ standing c l found
 adds w c l found p q r = λ i. record { count = p i; weight = q i; found = r i }
 
--- a survey placed, by what was found
+-- a survey put in, by what was found
 module _ (t : Survey) (n m : ℕ) {states conc flow states' conc' flow' : List ℕ} {r : Weighed} where
-  pub placed-found : n ≡ m → Placed t n states conc flow states' conc' flow' r → Placed t m states conc flow states' conc' flow' r
-  placed-found e p =
+  pub put-found : n ≡ m → PutAt t n states conc flow states' conc' flow' r → PutAt t m states conc flow states' conc' flow' r
+  put-found e p =
       record { weighs = p .weighs ∙ ap (standing (surveyC t) (surveyL t)) e; statesNow = p .statesNow; concNow = p .concNow; flowNow = p .flowNow }

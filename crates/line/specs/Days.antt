@@ -8,7 +8,7 @@ use lib.Dec.{eqb}
 use Rattle.law.specs.Words.{pick, seek}
 use Rattle.rules.specs.declared.Survey.{Survey}
 use Rattle.line.specs.declared.surveyed.Weighed.{Weighed}
-use Rattle.line.specs.Put.{surveyC, surveyL, standing, nothing, Placed}
+use Rattle.line.specs.Put.{surveyC, surveyL, standing, nothing, PutAt}
 
 -- 1 for a day of state 1, "missing"
 unfoldable pub lacksOn : List ℕ → ℕ → ℕ
@@ -20,7 +20,7 @@ firstLacking states days = seek (λ d. eqb (lacksOn states d) 1) (λ d. d + 1) 0
 
 -- a survey that stands: its day is measured, with its values, and weighed
 abbrev pub DayPut : Survey → List ℕ → List ℕ → List ℕ → List ℕ → List ℕ → List ℕ → Weighed → Type 0
-DayPut t states conc flow states' conc' flow' r = Placed t (lacksOn states (t .hour)) states conc flow states' conc' flow' r
+DayPut t states conc flow states' conc' flow' r = PutAt t (lacksOn states (t .hour)) states conc flow states' conc' flow' r
 
 -- a plant survey: beaten by an enforcement survey at its day, or one that stands
 pub record DayPlantPut (t : Survey) (beaten : Bool) (states conc flow states' conc' flow' : List ℕ) (r : Weighed) : Type 0 where

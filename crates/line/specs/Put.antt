@@ -37,7 +37,7 @@ abbrev pub nothing : Weighed
 nothing = record { count = 0; weight = 0; found = 0 }
 
 -- a survey that stands, at its hour or day, where so many that were missing are found: measured, with its values, and weighed
-pub record Placed (t : Survey) (found : ℕ) (states conc flow states' conc' flow' : List ℕ) (r : Weighed) : Type 0 where
+pub record PutAt (t : Survey) (found : ℕ) (states conc flow states' conc' flow' : List ℕ) (r : Weighed) : Type 0 where
   pub weighs : r ≡ standing (surveyC t) (surveyL t) found
   pub statesNow : states' ≡ set states (t .hour) 2
   pub concNow : conc' ≡ set conc (t .hour) (surveyC t)

@@ -2,7 +2,7 @@
 use crate::surveyed::Weighed;
 use crate::surveyed::is_flagged;
 use crate::surveyed::none_added;
-use crate::surveyed::place;
+use crate::surveyed::put_at;
 use rules::Survey;
 ghost use mathlib.Core.Path.{_≡_};
 ghost use Rattle.line.specs.Put.{beats};
@@ -40,7 +40,7 @@ pub fn put_on_day(t: Survey, states: &mut [u8], conc: &mut [u32], flow: &mut [u3
     ensures { λ r. ⌜ DayPut t (now (states .entry)) (now (conc .entry)) (now (flow .entry)) (now (states .exit)) (now (conc .exit)) (now (flow .exit)) r ⌝ }
 {
     let found = lacks_day(states, t.hour as usize);
-    place(t, found, states, conc, flow)
+    put_at(t, found, states, conc, flow)
 }
 
 // "Surveys act on days as on hours": where an enforcement survey stands a plant survey changes nothing and weighs nothing.

@@ -4,7 +4,7 @@ use crate::marked::put_cell;
 use crate::product;
 use rules::Survey;
 ghost use mathlib.Core.Path.{_≡_};
-ghost use Rattle.line.specs.Put.{inTables, nothing, beats, Placed, SurveyPut, PlantPut};
+ghost use Rattle.line.specs.Put.{inTables, nothing, beats, PutAt, SurveyPut, PlantPut};
 
 // What a survey adds to those of a line: one hour and its c x l, or nothing; and how many missing hours fewer the line has.
 pub struct Weighed {
@@ -14,14 +14,14 @@ pub struct Weighed {
 }
 
 // A survey that stands, at its hour or day: rounded, measured with its readings, and weighed.
-pub fn place(
+pub fn put_at(
     t: Survey,
     found: u32,
     states: &mut [u8],
     conc: &mut [u32],
     flow: &mut [u32],
 ) -> Weighed
-    ensures { λ r. ⌜ Placed t found (now (states .entry)) (now (conc .entry)) (now (flow .entry)) (now (states .exit)) (now (conc .exit)) (now (flow .exit)) r ⌝ }
+    ensures { λ r. ⌜ PutAt t found (now (states .entry)) (now (conc .entry)) (now (flow .entry)) (now (states .exit)) (now (conc .exit)) (now (flow .exit)) r ⌝ }
 {
     let p = t.pair;
     let f = reading::flagged_pair(p.concentration, p.flow);
@@ -48,7 +48,7 @@ pub fn put_survey(
         (inTables (now (measured .exit)) (now (states .exit)) (now (conc .exit)) (now (flow .exit))) r ⌝ }
 {
     let found = hours::mark_measured(runs, measured, t.hour);
-    place(t, found, states, conc, flow)
+    put_at(t, found, states, conc, flow)
 }
 
 // Whether an hour has an enforcement survey; past the quarter none has.

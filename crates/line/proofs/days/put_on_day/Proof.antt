@@ -1,5 +1,5 @@
--- `line::days::put_on_day` meets its contract, by that of `place`. Assumes nothing.
-use Rattle.line.proofs.Surveys.{placed-found}
+-- `line::days::put_on_day` meets its contract, by that of `put_at`. Assumes nothing.
+use Rattle.line.proofs.Surveys.{put-found}
 use borrow.Author.Needs.{needs}
 use Rattle.line.proofs.days.put_on_day.Statement.{statement}
 use Rattle.line.proofs.days.put_on_day.Tie as tie
@@ -7,7 +7,7 @@ use Rattle.line.proofs.days.put_on_day.Tie as tie
 returns : tie.Need-returns
 returns c =
     let p = c .before .before .before .before .before .before in
-    placed-found _ _ _ (p .before .before .before .before .lacks-day .ensures) (p .place .ensures)
+    put-found _ _ _ (p .before .before .before .before .lacks-day .ensures) (p .put-at .ensures)
 
 pub put-on-day-spec : {M : Type 1} → statement M
 put-on-day-spec =

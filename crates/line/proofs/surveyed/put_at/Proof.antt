@@ -1,12 +1,12 @@
--- `line::surveyed::place` meets its contract. Assumes nothing.
+-- `line::surveyed::put_at` meets its contract. Assumes nothing.
 use mathlib.Core.Path.{refl, ap, ap₂, _∙_}
 use Prim.Native.Nat.{_*_}
 use lib.ListN.{set}
 use denote.Ref.{now}
 use Rattle.line.proofs.Surveys.{concentration-is, flow-is, adds}
 use borrow.Author.Needs.{needs}
-use Rattle.line.proofs.surveyed.place.Statement.{statement}
-use Rattle.line.proofs.surveyed.place.Tie as tie
+use Rattle.line.proofs.surveyed.put_at.Statement.{statement}
+use Rattle.line.proofs.surveyed.put_at.Tie as tie
 
 returns : tie.Need-returns
 returns c =
@@ -24,8 +24,8 @@ returns c =
       flowNow = flows .put-cell2 .ensures ∙ ap (set (now (a .flow)) (a .t .hour)) m;
     }
 
-pub place-spec : {M : Type 1} → statement M
-place-spec =
+pub put-at-spec : {M : Type 1} → statement M
+put-at-spec =
     tie.close
     (tie.spec
     (λ c κs. search needs)
