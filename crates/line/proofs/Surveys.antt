@@ -38,6 +38,10 @@ beats-past flags h l = sym (ap (λ (t : Bool). t && eqb (getD flags h 0) 1) (le-
 pub tables-are : (a b c d a' b' c' d' : List ℕ) → a ≡ a' → b ≡ b' → c ≡ c' → d ≡ d' → inTables a b c d ≡ inTables a' b' c' d'
 tables-are a b c d a' b' c' d' p q r s = cc
 
+-- a cell that is set, its value a fact of its own
+pub cell-is : (m n : ℕ) (cells out : List ℕ) (h : ℕ) → out ≡ set cells h n → n ≡ m → out ≡ set cells h m
+cell-is m n cells out h e q = e ∙ ap (set cells h) q
+
 -- what a survey adds, each figure by itself, so that a wrong one is named
 pub adds : (w : Weighed) (c l found : ℕ) → w .count ≡ 1 → w .weight ≡ c * l → w .found ≡ found → w ≡ standing c l found
 adds w c l found p q r = λ i. record { count = p i; weight = q i; found = r i }

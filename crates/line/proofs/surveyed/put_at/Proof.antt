@@ -1,9 +1,9 @@
 -- `line::surveyed::put_at` meets its contract. Assumes nothing.
-use mathlib.Core.Path.{refl, ap, ap₂, _∙_}
+use mathlib.Core.Path.{refl, ap₂, _∙_}
 use Prim.Native.Nat.{_*_}
-use lib.ListN.{set}
+use Rattle.line.proofs.Surveys.{concentration-is, flow-is, cell-is, adds}
 use denote.Ref.{now}
-use Rattle.line.proofs.Surveys.{concentration-is, flow-is, adds}
+use Rattle.line.specs.Put.{surveyC, surveyL}
 use borrow.Author.Needs.{needs}
 use Rattle.line.proofs.surveyed.put_at.Statement.{statement}
 use Rattle.line.proofs.surveyed.put_at.Tie as tie
@@ -20,8 +20,8 @@ returns c =
     record {
       weighs = adds _ _ _ _ refl (c .product .ensures ∙ ap₂ _*_ n m) refl;
       statesNow = states .mark-state .ensures;
-      concNow = concentrations .put-cell .ensures ∙ ap (set (now (a .conc)) (a .t .hour)) n;
-      flowNow = flows .put-cell2 .ensures ∙ ap (set (now (a .flow)) (a .t .hour)) m;
+      concNow = cell-is (surveyC (a .t)) (f .flagged-pair .result .concentration) (now (a .conc)) _ (a .t .hour) (concentrations .put-cell .ensures) n;
+      flowNow = cell-is (surveyL (a .t)) (f .flagged-pair .result .flow) (now (a .flow)) _ (a .t .hour) (flows .put-cell2 .ensures) m;
     }
 
 pub put-at-spec : {M : Type 1} → statement M
