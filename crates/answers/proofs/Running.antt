@@ -18,10 +18,10 @@ use Rattle.rules.specs.declared.Survey.{Survey}
 use Rattle.rules.specs.declared.View.{View}
 use Rattle.rules.specs.declared.Record.{Record}
 use Rattle.rules.specs.declared.Record.the-variants.{Bad, OfHead, OfDay, OfEnforcement, OfPlant, OfBatch, OfEnd, OfOutfallHead, OfOutfallDay, OfOutfallEnforcement, OfOutfallPlant}
-use Rattle.rules.specs.Records.{Day, dayOf, Placed, recordIn, recordsOf}
+use Rattle.rules.specs.Records.{dayOf, Placed, recordIn, recordsOf}
 use Rattle.rules.specs.Hours.{bit, runMasks, runsAt}
 use Rattle.rules.specs.Lines.{StackLine, surveyed, daysAfter}
-use Rattle.rules.specs.Outfalls.{OutfallLine, Line, OfStack, OfOutfall}
+use Rattle.rules.specs.Outfalls.{Line, OfStack, OfOutfall}
 use Rattle.rules.specs.Alone.{noneMissing, daysAlone}
 use Rattle.rules.specs.Judge.{refuse, fine, first, placeEnforcement, placePlant, judgeStopped, judgeSurvey, judgeRecord}
 use Rattle.rules.specs.Walk.{Stand, Between, Inside, InWater, viewOf, runsOf, begun, withDay, withEnforcement, withPlant, withBatch, taken, takenBetween, takenInside, takenInWater, Outcome, Refused, Accepted, ended, faultOf, walk, outcome}

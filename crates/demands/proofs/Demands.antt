@@ -43,7 +43,7 @@ use Rattle.allowance.proofs.Near.{automatic-near, manual-near, stack-near, outf
 use Rattle.quarter.proofs.account.Met.{met as account-met}
 use Rattle.panel.proofs.Panel.hour.Met.{met as hour-met}
 use Rattle.survey.proofs.governing_survey.Met.{met as governing-met}
-use Rattle.demands.specs.Demands.{Call, Result, Lent, Kept, Version, Keeps, gramsIn, Taken, NoneOfFour, EveryRowNear, RefusesAll, PanelExact, Governs, Demands, Code}
+use Rattle.demands.specs.Demands.{Call, Result, Lent, Kept, Version, Keeps, Taken, NoneOfFour, EveryRowNear, RefusesAll, PanelExact, Governs, Demands, Code}
 use Rattle.demands.proofs.Falsity.{false-true, differ}
 use Rattle.demands.proofs.Files.{second, two, outfall, dirtier, mixed, callOf, lent-all, rowsTo, Given, given-all}
 use Rattle.demands.proofs.Rows.{row-near}

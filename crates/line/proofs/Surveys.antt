@@ -1,14 +1,12 @@
 -- The figures of a survey are those of its readings; its hour's flag. Assumes nothing.
-use mathlib.Core.Path.{_≡_, refl, sym, ap, _∙_}
+use mathlib.Core.Path.{_≡_, sym, ap, _∙_}
 use mathlib.Core.Bool.{Bool, false, _&&_}
 use mathlib.Core.List.{List}
 use Prim.Native.Nat.{ℕ, _*_, _<_, _≤_}
-use lib.ListN.{length, getD, set}
-use lib.Seq.{set-out}
+use lib.ListN.{getD, set}
 use lib.Dec.{eqb}
 use borrow.Author.Tests.{lt-ltb, le-ltb}
 use Rattle.law.specs.Numbers.{mostHours}
-use Rattle.law.proofs.Tests.{pick-case}
 use Rattle.reading.specs.declared.FlaggedPair.{FlaggedPair}
 use Rattle.reading.specs.Reading.{flaggedPair, flaggedHour}
 use Rattle.rules.specs.Hours.{measuredOf}

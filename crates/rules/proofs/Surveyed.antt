@@ -1,6 +1,5 @@
 -- A mask with a bit set, and a survey put into its day: what it does to the hours, the masks and the counts of a line's days. Assumes nothing.
-use mathlib.Core.Path.{_≡_, refl, _∙_, sym, ap, ap₂, subst}
-use mathlib.Core.Bool.{Bool, true, false}
+use mathlib.Core.Path.{_≡_, refl, _∙_, sym, ap, ap₂}
 use mathlib.Core.List.{List, [], _∷_, _++_}
 use Prim.Native.Nat.{ℕ, zero, suc, _+_, _-_, _*_, _/_, _%_, _^_, _<_, _≤_, max}
 use native.Mathlib.Nat.{div-one, mod-lt, zero-lt-suc, le-of-suc-le-suc, div-eq-of-lt, one-mul, pow-suc, mul-mod-left}
@@ -15,14 +14,14 @@ use lib.Seq.{getD-append-seam}
 use lib.Dec.{eqb}
 use borrow.Author.Tests.{eq-eqb, ne-eqb, eqb-true, eqb-false}
 use Rattle.law.specs.Numbers.{hoursOfDay}
-use Rattle.law.specs.Words.{pick, table, sumOf, tally}
+use Rattle.law.specs.Words.{pick, table, sumOf}
 use Rattle.law.proofs.Tests.{pick-case}
-use Rattle.law.proofs.Tabled.{table-at, table-set, table-same}
+use Rattle.law.proofs.Tabled.{table-at, table-set}
 use Rattle.law.proofs.Tallies.{tally-mono}
 use Rattle.rules.specs.declared.Pair.{Pair}
 use Rattle.rules.specs.declared.Survey.{Survey}
 use Rattle.rules.specs.Records.{Day}
-use Rattle.rules.specs.Slots.{Slot, valid, missing, stopped}
+use Rattle.rules.specs.Slots.{valid, missing, stopped}
 use Rattle.rules.specs.Hours.{bit, pairAt, slotOf, slotsOf, runMasks, measuredMasks, missingOf, running, lacking}
 use Rattle.rules.specs.Lines.{StackLine, besides, surveyed, withBit, withPair, measuredWith, atDay, putSurvey, putSurveys, daysAfter}
 use Rattle.rules.proofs.Days.{length-runs, length-measured, runs-at-day, measured-at-day, slots-at-day}

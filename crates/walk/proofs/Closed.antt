@@ -7,7 +7,7 @@ use native.Mathlib.Omega.{arith}
 use lib.ListN.{length, take, drop, getD, length-take}
 use lib.Seq.{getD-take}
 use lib.Dec.{eqb}
-use Rattle.law.specs.Numbers.{hoursOfDay, mostDays, mostHours, rowCells, mostSurveys, mostConcentration, mostFlow, mostAmount, perGram, perGramOfWater, mostGrams}
+use Rattle.law.specs.Numbers.{hoursOfDay, mostDays, mostHours, mostSurveys, mostConcentration, mostFlow, mostAmount, perGram, perGramOfWater, mostGrams}
 use Rattle.law.specs.Words.{pick, halvesUp, largest}
 use Rattle.law.proofs.Tests.{pick-true, pick-false, pick-case}
 use Rattle.law.proofs.Halves.{halves-within}
@@ -18,17 +18,16 @@ use Rattle.walk.specs.declared.books.Sums.{Sums}
 use Rattle.walk.specs.Taking.{LineStated, EndReady, EndTaken, WaterEndReady}
 use Rattle.hours.specs.States.{stateAt, periodStates}
 use Rattle.rules.specs.Hours.{firstMissing}
-use Rattle.line.specs.Line.{rowIn}
 use Rattle.fills.proofs.Period.{periodNow, period-filled, period-plain}
 use Rattle.walk.specs.declared.take.Taken.{Taken}
-use Rattle.walk.specs.Books.{putFrom, Done}
-use Rattle.walk.specs.Views.{afterEnd, ranBy, lacksBy}
-use Rattle.rules.specs.Judge.{fine, lineMethod, dailyMethod}
+use Rattle.walk.specs.Books.{Done}
+use Rattle.walk.specs.Views.{ranBy, lacksBy}
+use Rattle.rules.specs.Judge.{lineMethod, dailyMethod}
 use Rattle.law.proofs.Tabled.{table-length}
 use Rattle.fills.specs.Gaps.{filledCells}
 use Rattle.fills.specs.Weights.{products}
 use Rattle.fills.proofs.Bounds.{largest-each, filled-most, products-most}
-use Rattle.walk.specs.Closing.{Limits, periodWeight, dailyGrams, lineGrams, LineGrams, withGrams}
+use Rattle.walk.specs.Closing.{Limits, periodWeight, dailyGrams, lineGrams, LineGrams}
 
 -- the parts of the cells that are weighed are those of the period
 pub parts-weigh : (conc flow : List ℕ) (n : ℕ) → products (take (n - 0) (drop 0 conc)) (take (n - 0) (drop 0 flow)) ≡ periodWeight n conc flow

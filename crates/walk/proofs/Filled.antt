@@ -1,7 +1,7 @@
 -- The end of a line: what the cells hold then, filled or not, and what is weighed. Assumes nothing.
 use mathlib.Core.Path.{_≡_, refl, _∙_, sym, ap, ap₂}
-use mathlib.Core.List.{List, [], _∷_, _++_, map, reverse}
-use Prim.Native.Nat.{ℕ, zero, suc, _+_, _-_, _*_, _<_, _≤_}
+use mathlib.Core.List.{List, [], _++_, map, reverse}
+use Prim.Native.Nat.{ℕ, _+_, _-_, _*_, _<_, _≤_}
 use native.Mathlib.Omega.{arith}
 use lib.ListN.{length, length-append, take, drop, getD, replicate, length-take, length-drop, length-map, length-replicate, take-append-drop, getD-replicate, List·getD-map, List·getD-eq-default}
 use lib.Seq.{getD-take, getD-drop, ext-getD}

@@ -1,5 +1,5 @@
 -- What a record that is taken in does to the values of each hour of its line. Assumes nothing.
-use mathlib.Core.Path.{_≡_, refl, _∙_, sym, ap, subst}
+use mathlib.Core.Path.{_≡_, _∙_, sym, ap}
 use mathlib.Core.List.{List, [], _∷_, _++_}
 use Prim.Native.Nat.{ℕ, _+_, _*_, _<_, _≤_}
 use native.Mathlib.Omega.{arith}
@@ -12,7 +12,7 @@ use Rattle.rules.specs.declared.Head.{Head}
 use Rattle.rules.specs.declared.Pair.{Pair}
 use Rattle.rules.specs.declared.Survey.{Survey}
 use Rattle.rules.specs.Records.{Day}
-use Rattle.rules.specs.Slots.{Slot, valid, missing, stopped}
+use Rattle.rules.specs.Slots.{Slot, valid, stopped}
 use Rattle.rules.specs.Hours.{slotOf, slotsOf}
 use Rattle.rules.specs.Lines.{StackLine, daysAfter, hours, putSurvey}
 use Rattle.rules.specs.Walk.{begun, withDay}

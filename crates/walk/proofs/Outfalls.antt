@@ -2,13 +2,13 @@
 use mathlib.Core.Path.{_≡_, refl, _∙_, sym, ap, ap₂, subst, subst₂}
 use mathlib.Core.Bool.{Bool, true, false}
 use mathlib.Core.List.{List, [], _∷_, map}
-use Prim.Native.Nat.{ℕ, zero, suc, _+_, _-_, _*_, _<_, _≤_}
+use Prim.Native.Nat.{ℕ, _+_, _-_, _*_, _<_, _≤_}
 use native.Mathlib.Omega.{arith}
 use lib.ListN.{length, getD, set, length-map, length-set, length-append}
 use lib.Dec.{eqb, ltb}
 use Rattle.law.specs.Numbers.{mostDays, mostHours, mostLines, totalCells, mostSurveys, perGramOfWater}
-use Rattle.law.specs.Words.{pick, sumOf, halvesUp}
-use Rattle.law.proofs.Tests.{pick-case, pick-true, pick-false, pick-eq, pick-not-eq}
+use Rattle.law.specs.Words.{pick, halvesUp}
+use Rattle.law.proofs.Tests.{pick-case, pick-true, pick-false}
 use Rattle.law.proofs.Tabled.{table-at}
 use Rattle.rules.specs.declared.Head.{Head}
 use Rattle.rules.specs.declared.Outfall.{Outfall}
@@ -21,9 +21,9 @@ use Rattle.rules.specs.Outfalls.{OutfallLine, daysInTurn, surveyedDays, outfall
 use Rattle.rules.specs.Measured.{ofOutfall}
 use Rattle.rules.specs.Method.{dailyMethodOf, outfallMethod}
 use Rattle.rules.specs.Fields.{waterDayFields}
-use Rattle.rules.specs.Fill.{Values, cs, ls, unfilled}
-use Rattle.rules.specs.Grams.{valuesOf, hourly, amount, automatic, manual, outfallGrams, gramsOf}
-use Rattle.rules.specs.Row.{outfallRow, rowOf, held, cells, concentrationCells, flowCells}
+use Rattle.rules.specs.Fill.{cs, ls, unfilled}
+use Rattle.rules.specs.Grams.{valuesOf, hourly, automatic, manual, outfallGrams, gramsOf}
+use Rattle.rules.specs.Row.{outfallRow, rowOf, held, concentrationCells, flowCells}
 use Rattle.rules.specs.Judge.{fine, firstWrong, dailyMethod}
 use Rattle.rules.specs.Walk.{Between, InWater, viewOf, begunOutfall, withWaterDay, withDayEnforcement, withDayPlant}
 use Rattle.day.proofs.Laws.{PairAccepted}
@@ -32,12 +32,10 @@ use Rattle.line.specs.Line.{rowIn}
 use Rattle.line.specs.Put.{standing, nothing, surveyC, surveyL, beats}
 use Rattle.line.specs.Days.{lacksOn, firstLacking, DayPut}
 use Rattle.line.proofs.Surveys.{beats-within}
-use Rattle.fills.specs.Weights.{products}
 use Rattle.walk.specs.declared.books.Sums.{Sums}
 use Rattle.walk.specs.declared.take.Taken.{Taken}
 use Rattle.walk.specs.Views.{afterHead, afterWaterDay, afterEnforcement, afterPlant, afterEnd, withSurvey}
-use Rattle.walk.specs.Books.{flagAt, Open, inOpen, Done, DoneKept, Long, WaterBooks, Kept}
-use Rattle.walk.specs.Closing.{periodWeight, dailyGrams}
+use Rattle.walk.specs.Books.{flagAt, Open, inOpen, Done, Long, WaterBooks, Kept}
 use Rattle.walk.specs.Taking.{pairC, pairL, HeadTaken, WaterDayTaken, DayEnforcementTaken, DayPlantTaken, WaterEndTaken}
 use Rattle.walk.proofs.Cleared.{cells-past}
 use Rattle.walk.proofs.Views.{survey-count}

@@ -12,7 +12,7 @@ use Rattle.law.specs.Words.{pick, table}
 use Rattle.law.proofs.Tests.{pick-true, pick-false}
 use Rattle.law.proofs.Tabled.{table-length, table-at}
 use Rattle.reading.specs.declared.Rounded.{Rounded}
-use Rattle.reading.specs.Reading.{flow, stated, flaggedOf}
+use Rattle.reading.specs.Reading.{stated, flaggedOf}
 use Rattle.rules.specs.declared.Head.{Head}
 use Rattle.rules.specs.declared.Survey.{Survey}
 use Rattle.rules.specs.declared.Batch.{Batch}
@@ -21,7 +21,7 @@ use Rattle.rules.specs.Records.{Day, masksOf, dayOf}
 use Rattle.rules.specs.Slots.{valid, missing, stopped}
 use Rattle.rules.specs.Hours.{bit, pairAt, slotOf, lacking}
 use Rattle.rules.specs.Lines.{StackLine, hasSurvey, daysAfter, surveys, fuel}
-use Rattle.rules.specs.Outfalls.{Line, OfStack}
+use Rattle.rules.specs.Outfalls.{Line}
 use Rattle.hours.specs.Marks.{foundBy}
 use Rattle.rules.specs.Fill.{Values, zeroes}
 use Rattle.rules.specs.Grams.{valuesOf}

@@ -12,15 +12,12 @@ use Rattle.rules.specs.declared.Survey.{Survey}
 use Rattle.rules.specs.declared.Batch.{Batch}
 use Rattle.rules.specs.declared.View.{View}
 use Rattle.rules.specs.declared.Pair.{Pair}
-use Rattle.rules.specs.declared.Outfall.{Outfall}
 use Rattle.rules.specs.declared.WaterDay.{WaterDay}
-use Rattle.rules.specs.Outfalls.{asHead}
 use Rattle.rules.specs.Hours.{firstMissing}
 use Rattle.reading.specs.Reading.{reading, concentrationOf, flowOf, flaggedOf}
 use Rattle.rules.specs.Records.{dayOf}
 use Rattle.hours.specs.States.{periodStates}
-use Rattle.line.specs.Days.{lacksOn, firstLacking, DayPut, DayPlantPut}
-use Rattle.hours.specs.Marks.{foundBy}
+use Rattle.line.specs.Days.{firstLacking, DayPut, DayPlantPut}
 use Rattle.line.specs.declared.surveyed.Weighed.{Weighed}
 use Rattle.line.specs.Put.{Tables, beats, SurveyPut, PlantPut}
 use Rattle.line.specs.Line.{rowIn}

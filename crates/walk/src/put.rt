@@ -1,6 +1,6 @@
 // A line's row put into the rows of a walk.
 ghost use mathlib.Core.Path.{_≡_};
-ghost use Prim.Native.Nat.{_+_, _*_, _<_, _≤_};
+ghost use Prim.Native.Nat.{_*_, _<_};
 ghost use lib.ListN.{length, getD};
 ghost use Rattle.law.specs.Numbers.{mostLines, rowCells, mostCells};
 ghost use Rattle.walk.specs.Books.{putFrom};

@@ -1,6 +1,6 @@
 -- `line::days::first_missing_day` meets its contract. The loop's invariant: the whole search gives what is left of it at `day`. Assumes nothing.
-use mathlib.Core.Path.{_≡_, ap, _∙_, sym}
-use Prim.Native.Nat.{ℕ, _+_, _-_}
+use mathlib.Core.Path.{_≡_, _∙_, sym}
+use Prim.Native.Nat.{_+_, _-_}
 use lib.Dec.{eqb}
 use borrow.Author.Tests.{eq-eqb, ne-eqb}
 use Rattle.line.specs.Days.{lacksOn, firstLacking}

@@ -5,7 +5,6 @@ use native.Mathlib.Omega.{arith}
 use Rattle.law.specs.Words.{halvesUp}
 use Rattle.law.proofs.Halves.{halves-of}
 use Rattle.walk.proofs.Closed.{halves-fit, units-are}
-use borrow.Author.Needs.{needs}
 use Rattle.walk.proofs.close.grams_of.Statement.{statement}
 use Rattle.walk.proofs.close.grams_of.Tie as tie
 
