@@ -11,10 +11,10 @@ use Rattle.law.specs.Words.{largest}
 use Rattle.law.proofs.Tests.{pick-case}
 use Rattle.law.proofs.Tabled.{table-at}
 use Rattle.rules.specs.Slots.{Slot, valid, missing, stopped, valids, entry}
-use Rattle.gap.proofs.Largest.{largest-append}
-use Rattle.gap.proofs.Bounds.{fill-most}
 use Rattle.fills.specs.Gaps.{slotAt, row, fillAt, cellAt, filledCells}
 use Rattle.fills.specs.Weights.{products}
+use Rattle.fills.proofs.Largest.{largest-append}
+use Rattle.fills.proofs.Limits.{fill-most}
 use Rattle.fills.proofs.States.{row-length, slot-holds}
 use Rattle.fills.proofs.Filled.{filled-at}
 

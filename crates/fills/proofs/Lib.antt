@@ -1,5 +1,8 @@
 -- Laws about fills, each proved once; proofs of functions cite them, and so do the layers above.
 pub mod Neighbours
+pub mod Largest
+pub mod Limits
+pub mod Windows
 pub mod States
 pub mod Products
 pub mod Alone

@@ -34,6 +34,7 @@ module _ (states values₀ kept : List ℕ) where
   pub record Stand (values : List ℕ) (b i : ℕ) : Type 0 where
     pub in-values : length states ≤ length values₀
     pub in-hours : i ≤ length states
+    pub in-kept : b ≤ length kept
     pub size : length values ≡ length values₀
     pub done : values ≡ over (cellAt states values₀) i values₀
     pub earlier : reverse (take b kept) ≡ valids (before (row states values₀) i)
@@ -49,6 +50,7 @@ module _ (states values₀ kept : List ℕ) where
       record {
         in-values = m;
         in-hours = omega arith;
+        in-kept = omega arith;
         size = refl;
         done = over-none (cellAt states values₀) values₀;
         earlier = sym (none-before slots .1);
@@ -80,6 +82,7 @@ module _ (states values₀ kept : List ℕ) where
         record {
           in-values = s .in-values;
           in-hours = omega arith;
+          in-kept = omega arith;
           size = s .size;
           done = s .done ∙ over-skip (cellAt states values₀) i values₀ (omega arith) (kept-cell i (λ f. omega arith));
           earlier =
@@ -99,6 +102,7 @@ module _ (states values₀ kept : List ℕ) where
         record {
           in-values = s .in-values;
           in-hours = omega arith;
+          in-kept = omega (arith, s .in-kept);
           size = s .size;
           done = s .done ∙ over-skip (cellAt states values₀) i values₀ (omega arith) (kept-cell i p);
           earlier = ap (λ (k : ℕ). reverse (take k kept)) same-b ∙ s .earlier ∙ sym (valids-before slots i stopped r slot);
@@ -146,6 +150,7 @@ module _ (states values₀ kept : List ℕ) where
           record {
             in-values = s .in-values;
             in-hours = far;
+            in-kept = omega (arith, s .in-kept);
             size = ap length done ∙ length-over (cellAt states values₀) next values₀ (omega arith);
             done = done;
             earlier = ap (λ (k : ℕ). reverse (take k kept)) same-b ∙ s .earlier ∙ sym (a .1) ∙ ap (λ (k : ℕ). valids (before slots k)) to;

@@ -2,4 +2,5 @@
 pub mod Gaps
 pub mod Weights
 pub mod Parts
+pub mod Windows
 pub mod Period

@@ -4,10 +4,14 @@ ghost use Prim.Native.Nat.{_≤_};
 ghost use lib.ListN.{length};
 ghost use Rattle.law.specs.Numbers.{mostHours};
 ghost use Rattle.fills.specs.Parts.{patched, Roomy, Gathered, Aside, FilledBoth, gapFill};
+ghost use Rattle.fills.specs.Windows.{Known};
+use crate::fill::fill_of;
 use crate::stretch::Gap;
 use crate::stretch::filler;
 use crate::stretch::run_end;
 use crate::stretch::scan;
+use crate::window::Seen;
+use crate::window::UNSEEN;
 
 // The valid values of both quantities, in their order, into the first cells of `cs` and `ls`; how many there are.
 fn gather(
@@ -36,12 +40,29 @@ fn gather(
 }
 
 // One quantity of the gap at hour `first`: `kept` has its valid values, of which `b` stand before the gap.
-fn fill_one(states: &[u8], values: &mut [u32], kept: &[u32], first: usize, b: usize, gap: Gap)
-    requires { ⌜ (first ≤ gap .next) × (gap .next ≤ length (now states)) × (gap .next ≤ length (now values)) ⌝ }
-    ensures { λ _. ⌜ now (values .exit) ≡ patched (now (states .entry)) (gapFill (gap .missing) (now (kept .entry)) b) first (gap .next) (now (values .entry)) ⌝ }
+fn fill_one(
+    states: &[u8],
+    values: &mut [u32],
+    kept: &[u32],
+    peaks: &mut [u32],
+    known: Seen,
+    first: usize,
+    b: usize,
+    gap: Gap,
+) -> Seen
+    requires { ⌜ ((first ≤ gap .next) × (gap .next ≤ length (now states)) × (gap .next ≤ length (now values)))
+        × (Known (now kept) (now peaks) known × (known .end ≤ b) × (b ≤ length (now kept))) ⌝ }
+    ensures { λ r. ⌜ (now (values .exit) ≡ patched (now (states .entry)) (gapFill (gap .missing) (now (kept .entry)) b) first (gap .next) (now (values .entry)))
+        × Known (now (kept .entry)) (now (peaks .exit)) r × (r .end ≤ b) ⌝ }
 {
-    let v = gap::fill_of(gap.missing, kept, b);
-    filler(&mut values[first..], &states[first..], gap.next - first, v);
+    let f = fill_of(gap.missing, kept, b, peaks, known);
+    filler(
+        &mut values[first..],
+        &states[first..],
+        gap.next - first,
+        f.value,
+    );
+    f.seen
 }
 
 // Every gap, from the first hour on: of the hours before `i`, `empty` are not measured.
@@ -49,6 +70,10 @@ fn fill_along(states: &[u8], concentrations: &mut [u32], flows: &mut [u32], cs: 
     requires { ⌜ Aside (now states) (now concentrations) (now flows) (now cs) (now ls) ⌝ }
     ensures { λ _. ⌜ FilledBoth (now (states .entry)) (now (concentrations .entry)) (now (flows .entry)) (now (concentrations .exit)) (now (flows .exit)) ⌝ }
 {
+    let mut cpeaks = [0u32; 16];
+    let mut lpeaks = [0u32; 16];
+    let mut cseen = UNSEEN;
+    let mut lseen = UNSEEN;
     let mut empty: usize = 0;
     let mut i: usize = 0;
     while i < states.len() {
@@ -59,8 +84,8 @@ fn fill_along(states: &[u8], concentrations: &mut [u32], flows: &mut [u32], cs: 
             if s == 1 {
                 let gap = scan(states, i);
                 let b = i - empty;
-                fill_one(states, concentrations, cs, i, b, gap);
-                fill_one(states, flows, ls, i, b, gap);
+                cseen = fill_one(states, concentrations, cs, &mut cpeaks, cseen, i, b, gap);
+                lseen = fill_one(states, flows, ls, &mut lpeaks, lseen, i, b, gap);
                 i = gap.next;
                 empty = i - b;
             } else {

@@ -1,6 +1,8 @@
 // The hours of a line's period: the gaps of both quantities filled.
+mod fill;
 mod gaps;
 mod stretch;
+mod window;
 
 use cells::lesser;
 ghost use Rattle.fills.specs.Period.{PeriodFilled};

@@ -11,6 +11,7 @@ use inputs::wire::{self, Day, Head, Line, WaterDay, WaterHead, WaterLine};
 
 const SEED: u64 = 0x0d0a_29e2_0005;
 const SAMPLES: usize = 301;
+const CASES: usize = 7;
 
 type Account = fn(&[u8], &mut [u64], &mut [u32], &mut [u32]) -> u64;
 
@@ -33,14 +34,14 @@ struct Case {
     file: Vec<u8>,
 }
 
-/// Line `number` of a file: `days` days, measured but for `dark`, a range of hours.
-fn line(number: u16, days: u8, dark: std::ops::Range<usize>, rng: &mut Rng) -> Line {
+/// Line `number` of a file: `days` days, measured but for the hours that are `dark`.
+fn line(number: u16, days: u8, dark: fn(usize) -> bool, rng: &mut Rng) -> Line {
     let (stack, pollutant) = (number / 3, (number % 3) as u8 + 1);
     let head = Head { stack, pollutant, required: 1, furnace: 1, coal: 4, megawatts: 300, mark: 1, days };
     let mut of_line: Vec<Day> = (0..days).map(Day::stopped).collect();
     for hour in 0..24 * usize::from(days) {
         let day = &mut of_line[hour / 24];
-        if dark.contains(&hour) {
+        if dark(hour) {
             day.miss(hour % 24);
         } else {
             let concentration = 20.0 + rng.below(400_000) as f32 / 1_024.0;
@@ -60,18 +61,35 @@ fn outfall(rng: &mut Rng) -> WaterLine {
     WaterLine { head, days: (0..head.days).map(measured).collect(), enforcement: Vec::new(), plant: Vec::new() }
 }
 
-fn cases() -> [Case; 5] {
+/// A file of `lines` lines.
+fn stacks(lines: u16, days: u8, dark: fn(usize) -> bool, rng: &mut Rng) -> Vec<u8> {
+    let lines: Vec<Line> = (0..lines).map(|number| line(number, days, dark, rng)).collect();
+    wire::file(&lines)
+}
+
+fn cases() -> [Case; CASES] {
     let mut rng = Rng::new(SEED);
-    let mut file = |lines: u16, days: u8, dark: std::ops::Range<usize>| {
-        let lines: Vec<Line> = (0..lines).map(|number| line(number, days, dark.clone(), &mut rng)).collect();
-        wire::file(&lines)
-    };
+    let rng = &mut rng;
     [
-        Case { name: "line", text: "a line of 92 days, all measured", file: file(1, 92, 0..0) },
-        Case { name: "lines", text: "48 such lines", file: file(48, 92, 0..0) },
-        Case { name: "dark", text: "92 days, 500 hours dark in one gap", file: file(1, 92, 900..1_400) },
-        Case { name: "days", text: "48 lines of one day", file: file(48, 1, 0..0) },
-        Case { name: "water", text: "an outfall, 92 days, all measured", file: wire::file(&[outfall(&mut rng)]) },
+        Case { name: "line", text: "a line of 92 days, all measured", file: stacks(1, 92, |_| false, rng) },
+        Case { name: "lines", text: "48 such lines", file: stacks(48, 92, |_| false, rng) },
+        Case {
+            name: "dark",
+            text: "92 days, 500 hours dark in one gap",
+            file: stacks(1, 92, |hour| (900..1_400).contains(&hour), rng),
+        },
+        Case { name: "days", text: "48 lines of one day", file: stacks(48, 1, |_| false, rng) },
+        Case { name: "water", text: "an outfall, 92 days, all measured", file: wire::file(&[outfall(rng)]) },
+        Case {
+            name: "gap",
+            text: "92 days, 550 hours dark in one gap",
+            file: stacks(1, 92, |hour| (900..1_450).contains(&hour), rng),
+        },
+        Case {
+            name: "gaps",
+            text: "92 days, 75 measured, 25 dark in turn",
+            file: stacks(1, 92, |hour| hour % 100 >= 75, rng),
+        },
     ]
 }
 
@@ -110,9 +128,9 @@ impl Times {
 }
 
 /// Times of both on each case; samples alternate, so that a busy machine slows all of them alike.
-fn measure(cases: &[Case; 5]) -> [[Times; 2]; 5] {
+fn measure(cases: &[Case; CASES]) -> [[Times; 2]; CASES] {
     let mut lent = Lent::new();
-    let mut samples: [[Vec<Duration>; 2]; 5] = Default::default();
+    let mut samples: [[Vec<Duration>; 2]; CASES] = Default::default();
     for _ in 0..SAMPLES {
         for (case, samples) in cases.iter().zip(&mut samples) {
             let calls = (200_000 / case.file.len() as u32).clamp(1, 100);
@@ -168,7 +186,7 @@ fn main() {
         _ => None,
     };
     if done.is_none() {
-        eprintln!("usage: speed | speed callgrind line|lines|dark|days|water proved|reference CALLS");
+        eprintln!("usage: speed | speed callgrind line|lines|dark|days|water|gap|gaps proved|reference CALLS");
         std::process::exit(2);
     }
 }

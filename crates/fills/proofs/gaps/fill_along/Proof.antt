@@ -1,24 +1,28 @@
 -- `fills::gaps::fill_along` meets its contract: what it holds is held in each quantity. Assumes nothing.
-use mathlib.Core.Path.{_≡_}
+use mathlib.Core.Path.{_≡_, refl}
 use Prim.Native.Nat.{_+_, _-_, _≤_}
 use native.Mathlib.Omega.{arith}
 use lib.ListN.{length}
 use Rattle.fills.proofs.Stand.{Stand, stand-start, stand-measured, stand-stopped, stand-gap, stand-end, gap-moves}
+use Rattle.fills.specs.Windows.{Known}
+use Rattle.fills.proofs.Windows.{unseen}
 use borrow.Author.Needs.{needs}
 use Rattle.fills.proofs.gaps.fill_along.Statement.{statement}
 use Rattle.fills.proofs.gaps.fill_along.Tie as tie
 
 abbrev Inv-loop : tie.InvT-loop
-Inv-loop states concentrations₀ flows₀ cs ls empty₀ i₀ concentrations flows empty i =
+Inv-loop states concentrations₀ flows₀ cs ls cpeaks₀ lpeaks₀ cseen₀ lseen₀ empty₀ i₀ concentrations flows cpeaks lpeaks cseen lseen empty i =
     (empty ≤ i) × Stand states concentrations₀ cs concentrations (i - empty) i × Stand states flows₀ ls flows (i - empty) i
+    × (Known cs cpeaks cseen × (cseen .end ≤ i - empty)) × (Known ls lpeaks lseen × (lseen .end ≤ i - empty))
 
 abbrev μ-loop : tie.MeasureT-loop
-μ-loop states concentrations₀ flows₀ cs ls empty₀ i₀ concentrations flows empty i = length states - i
+μ-loop states concentrations₀ flows₀ cs ls cpeaks₀ lpeaks₀ cseen₀ lseen₀ empty₀ i₀ concentrations flows cpeaks lpeaks cseen lseen empty i =
+    length states - i
 
 loop-holds : tie.Need-loop-holds Inv-loop μ-loop
 loop-holds c =
     let p = c .before .before .before .before .before .pre in
-    (search needs, stand-start _ _ _ (p .0) (p .2), stand-start _ _ _ (p .1) (p .3))
+    (search needs, stand-start _ _ _ (p .0) (p .2), stand-start _ _ _ (p .1) (p .3), (unseen _ _ refl, omega arith), (unseen _ _ refl, omega arith))
 
 shared-slice-read-s : tie.Need-shared-slice-read-s Inv-loop μ-loop
 shared-slice-read-s c = search needs
@@ -41,8 +45,13 @@ loop-again c =
     let l = h .before .loop in
     let end = c .run-end .result in
     let from = m .begins in
-    let b : end - l .empty ≡ l .i - l .empty + (end - l .i) = omega arith in
-    (omega arith, stand-measured _ _ _ _ _ (l .i) end _ (h .loop-test .taken) (c .before .if1 .taken) m b (l .inv .1), stand-measured _ _ _ _ _ (l .i) end _ (h .loop-test .taken) (c .before .if1 .taken) m b (l .inv .2))
+    let b : end - l .empty ≡ l .i - l .empty + (end - l .i) = omega arith in (
+      omega arith,
+      stand-measured _ _ _ _ _ (l .i) end _ (h .loop-test .taken) (c .before .if1 .taken) m b (l .inv .1),
+      stand-measured _ _ _ _ _ (l .i) end _ (h .loop-test .taken) (c .before .if1 .taken) m b (l .inv .2),
+      (l .inv .3 .0, omega (arith, l .inv .3 .1)),
+      (l .inv .4 .0, omega (arith, l .inv .4 .1)),
+    )
 
 scan-requires : tie.Need-scan-requires Inv-loop μ-loop
 scan-requires c κs = search needs
@@ -50,27 +59,35 @@ scan-requires c κs = search needs
 sub-b : tie.Need-sub-b Inv-loop μ-loop
 sub-b c = search needs
 
+slice-aggregate-fill-one : tie.Need-slice-aggregate-fill-one Inv-loop μ-loop
+slice-aggregate-fill-one c = search needs
+
 fill-one-requires : tie.Need-fill-one-requires Inv-loop μ-loop
 fill-one-requires c κs =
-    let g = c .before in
+    let g = c .before .before in
+    let l = g .before .before .before .before .before .loop in
     let s = g .scan .ensures in
-    (omega (arith, s .begins), s .ends, omega (arith, s .ends))
+    ((omega (arith, s .begins), s .ends, omega (arith, s .ends)), (l .inv .3 .0, l .inv .3 .1, l .inv .1 .in-kept))
+
+slice-aggregate-fill-one-2 : tie.Need-slice-aggregate-fill-one-2 Inv-loop μ-loop
+slice-aggregate-fill-one-2 c = search needs
 
 fill-one-requires-2 : tie.Need-fill-one-requires-2 Inv-loop μ-loop
 fill-one-requires-2 c κs =
-    let g = c .before .before .before .before .before in
+    let g = c .before .before .before .before .before .before .before .before in
+    let l = g .before .before .before .before .before .loop in
     let s = g .scan .ensures in
-    (omega (arith, s .begins), s .ends, omega (arith, s .ends))
+    ((omega (arith, s .begins), s .ends, omega (arith, s .ends)), (l .inv .4 .0, l .inv .4 .1, l .inv .2 .in-kept))
 
 sub-empty : tie.Need-sub-empty Inv-loop μ-loop
 sub-empty c =
-    let g = c .before .before .before .before .before .before .before .before in
+    let g = c .before .before .before .before .before .before .before .before .before .before .before .before in
     let s = g .scan .ensures in
     omega (arith, s .begins)
 
 loop-less-2 : tie.Need-loop-less-2 Inv-loop μ-loop
 loop-less-2 c =
-    let g = c .before .before .before .before .before .before .before .before in
+    let g = c .before .before .before .before .before .before .before .before .before .before .before .before in
     let h = g .before .before .before .before in
     let l = h .before .loop in
     let s = g .scan .ensures in
@@ -79,16 +96,23 @@ loop-less-2 c =
 
 loop-again-2 : tie.Need-loop-again-2 Inv-loop μ-loop
 loop-again-2 c =
-    let f = c .before .before in
-    let v = f .before .before .before .before in
-    let g = v .before .before in
+    let f = c .before .before .before in
+    let v = f .before .before .before .before .before .before in
+    let g = v .before .before .before in
     let h = g .before .before .before .before in
     let l = h .before .loop in
     let n = g .scan .result .next in
     let s = g .scan .ensures in
     let m = gap-moves _ (l .i) _ n (h .loop-test .taken) (g .before .if2 .taken) s in
     let b : n - (n - (l .i - l .empty)) ≡ l .i - l .empty = omega arith in
-    (omega arith, stand-gap _ _ _ _ _ (l .i) (h .loop-test .taken) (l .inv .1) (g .before .if2 .taken) _ n s _ (v .fill-one .ensures) _ b, stand-gap _ _ _ _ _ (l .i) (h .loop-test .taken) (l .inv .2) (g .before .if2 .taken) _ n s _ (f .fill-one2 .ensures) _ b)
+    let c₁ = v .fill-one .ensures in
+    let l₁ = f .fill-one2 .ensures in (
+      omega arith,
+      stand-gap _ _ _ _ _ (l .i) (h .loop-test .taken) (l .inv .1) (g .before .if2 .taken) _ n s _ (c₁ .0) _ b,
+      stand-gap _ _ _ _ _ (l .i) (h .loop-test .taken) (l .inv .2) (g .before .if2 .taken) _ n s _ (l₁ .0) _ b,
+      (c₁ .1, omega (arith, c₁ .2)),
+      (l₁ .1, omega (arith, l₁ .2)),
+    )
 
 add-empty : tie.Need-add-empty Inv-loop μ-loop
 add-empty c = search needs
@@ -103,8 +127,13 @@ loop-again-3 : tie.Need-loop-again-3 Inv-loop μ-loop
 loop-again-3 c =
     let h = c .before .before .before in
     let l = h .before .loop in
-    let b : l .i + 1 - (l .empty + 1) ≡ l .i - l .empty = omega arith in
-    (omega arith, stand-stopped _ _ _ _ _ (l .i) (h .loop-test .taken) (l .inv .1) (c .before .if1 .left) (c .if2 .left) _ b, stand-stopped _ _ _ _ _ (l .i) (h .loop-test .taken) (l .inv .2) (c .before .if1 .left) (c .if2 .left) _ b)
+    let b : l .i + 1 - (l .empty + 1) ≡ l .i - l .empty = omega arith in (
+      omega arith,
+      stand-stopped _ _ _ _ _ (l .i) (h .loop-test .taken) (l .inv .1) (c .before .if1 .left) (c .if2 .left) _ b,
+      stand-stopped _ _ _ _ _ (l .i) (h .loop-test .taken) (l .inv .2) (c .before .if1 .left) (c .if2 .left) _ b,
+      (l .inv .3 .0, omega (arith, l .inv .3 .1)),
+      (l .inv .4 .0, omega (arith, l .inv .4 .1)),
+    )
 
 same-length : tie.Need-same-length Inv-loop μ-loop
 same-length c = search needs
@@ -131,7 +160,9 @@ fill-along-spec =
     loop-again
     scan-requires
     sub-b
+    slice-aggregate-fill-one
     fill-one-requires
+    slice-aggregate-fill-one-2
     fill-one-requires-2
     sub-empty
     loop-less-2
