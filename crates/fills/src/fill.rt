@@ -7,12 +7,17 @@ ghost use Rattle.law.specs.Numbers.{longWindow};
 ghost use Rattle.law.specs.Words.{largest};
 ghost use Rattle.rules.specs.Fill.{short, meanUp, same};
 ghost use Rattle.fills.specs.Parts.{gapFill};
-ghost use Rattle.fills.specs.Windows.{Known};
-use crate::window::Found;
-use crate::window::Seen;
+ghost use Rattle.fills.specs.Windows.{Peaked};
 use crate::window::largest_of;
 use crate::window::last_720;
+use crate::window::put_peaks;
 use cells::lesser;
+
+// A fill, and how many peaks of the valid values are there by then.
+pub struct Found {
+    pub value: u32,
+    pub peaked: usize,
+}
 
 // The mean, halves up.
 fn mean_up(before: u32, after: u32) -> u32
@@ -48,22 +53,26 @@ fn first_720(valid: &[u32]) -> u32
     largest_of(&valid[0..end])
 }
 
-// The fill of a gap of `gap` missing hours.
-pub fn fill_of(gap: usize, valid: &[u32], b: usize, peaks: &mut [u32], known: Seen) -> Found
-    requires { ⌜ Known (now valid) (now peaks) known × (known .end ≤ b) × (b ≤ length (now valid)) ⌝ }
-    ensures { λ r. ⌜ (r .value ≡ gapFill gap (now (valid .entry)) b) × Known (now (valid .entry)) (now (peaks .exit)) (r .seen) × (r .seen .end ≤ b) ⌝ }
+// The fill of a gap of `gap` missing hours; of the peaks `n` are there already.
+pub fn fill_of(gap: usize, valid: &[u32], b: usize, peaks: &mut [u32], n: usize) -> Found
+    requires { ⌜ Peaked (now valid) (now peaks) n × (b ≤ length (now valid)) ⌝ }
+    ensures { λ r. ⌜ (r .value ≡ gapFill gap (now (valid .entry)) b) × Peaked (now (valid .entry)) (now (peaks .exit)) (r .peaked) ⌝ }
 {
     if gap <= 24 {
         return Found {
             value: short_fill(valid, b),
-            seen: known,
+            peaked: n,
         };
     }
     if 0 < b {
-        return last_720(valid, b, peaks, known);
+        let peaked = put_peaks(valid, b, peaks, n);
+        return Found {
+            value: last_720(valid, b, peaks),
+            peaked,
+        };
     }
     Found {
         value: first_720(valid),
-        seen: known,
+        peaked: n,
     }
 }

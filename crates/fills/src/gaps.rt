@@ -4,14 +4,12 @@ ghost use Prim.Native.Nat.{_≤_};
 ghost use lib.ListN.{length};
 ghost use Rattle.law.specs.Numbers.{mostHours};
 ghost use Rattle.fills.specs.Parts.{patched, Roomy, Gathered, Aside, FilledBoth, gapFill};
-ghost use Rattle.fills.specs.Windows.{Known};
+ghost use Rattle.fills.specs.Windows.{Peaked};
 use crate::fill::fill_of;
 use crate::stretch::Gap;
 use crate::stretch::filler;
 use crate::stretch::run_end;
 use crate::stretch::scan;
-use crate::window::Seen;
-use crate::window::UNSEEN;
 
 // The valid values of both quantities, in their order, into the first cells of `cs` and `ls`; how many there are.
 fn gather(
@@ -39,41 +37,41 @@ fn gather(
     b
 }
 
-// One quantity of the gap at hour `first`: `kept` has its valid values, of which `b` stand before the gap.
+// One quantity of the gap at hour `first`: `kept` has its valid values, of which `b` stand before the gap, and `n` of their peaks are there; how many are then.
 fn fill_one(
     states: &[u8],
     values: &mut [u32],
     kept: &[u32],
     peaks: &mut [u32],
-    known: Seen,
+    n: usize,
     first: usize,
     b: usize,
     gap: Gap,
-) -> Seen
+) -> usize
     requires { ⌜ ((first ≤ gap .next) × (gap .next ≤ length (now states)) × (gap .next ≤ length (now values)))
-        × (Known (now kept) (now peaks) known × (known .end ≤ b) × (b ≤ length (now kept))) ⌝ }
+        × (Peaked (now kept) (now peaks) n × (b ≤ length (now kept))) ⌝ }
     ensures { λ r. ⌜ (now (values .exit) ≡ patched (now (states .entry)) (gapFill (gap .missing) (now (kept .entry)) b) first (gap .next) (now (values .entry)))
-        × Known (now (kept .entry)) (now (peaks .exit)) r × (r .end ≤ b) ⌝ }
+        × Peaked (now (kept .entry)) (now (peaks .exit)) r ⌝ }
 {
-    let f = fill_of(gap.missing, kept, b, peaks, known);
+    let f = fill_of(gap.missing, kept, b, peaks, n);
     filler(
         &mut values[first..],
         &states[first..],
         gap.next - first,
         f.value,
     );
-    f.seen
+    f.peaked
 }
 
 // Every gap, from the first hour on: of the hours before `i`, `empty` are not measured.
 fn fill_along(states: &[u8], concentrations: &mut [u32], flows: &mut [u32], cs: &[u32], ls: &[u32])
-    requires { ⌜ Aside (now states) (now concentrations) (now flows) (now cs) (now ls) ⌝ }
+    requires { ⌜ Aside (now states) (now concentrations) (now flows) (now cs) (now ls) × (length (now cs) ≤ mostHours) × (length (now ls) ≤ mostHours) ⌝ }
     ensures { λ _. ⌜ FilledBoth (now (states .entry)) (now (concentrations .entry)) (now (flows .entry)) (now (concentrations .exit)) (now (flows .exit)) ⌝ }
 {
-    let mut cpeaks = [0u32; 16];
-    let mut lpeaks = [0u32; 16];
-    let mut cseen = UNSEEN;
-    let mut lseen = UNSEEN;
+    let mut cpeaks = [0u32; 46];
+    let mut lpeaks = [0u32; 46];
+    let mut cn: usize = 0;
+    let mut ln: usize = 0;
     let mut empty: usize = 0;
     let mut i: usize = 0;
     while i < states.len() {
@@ -84,8 +82,8 @@ fn fill_along(states: &[u8], concentrations: &mut [u32], flows: &mut [u32], cs: 
             if s == 1 {
                 let gap = scan(states, i);
                 let b = i - empty;
-                cseen = fill_one(states, concentrations, cs, &mut cpeaks, cseen, i, b, gap);
-                lseen = fill_one(states, flows, ls, &mut lpeaks, lseen, i, b, gap);
+                cn = fill_one(states, concentrations, cs, &mut cpeaks, cn, i, b, gap);
+                ln = fill_one(states, flows, ls, &mut lpeaks, ln, i, b, gap);
                 i = gap.next;
                 empty = i - b;
             } else {

@@ -4,25 +4,25 @@ use Prim.Native.Nat.{_+_, _-_, _≤_}
 use native.Mathlib.Omega.{arith}
 use lib.ListN.{length}
 use Rattle.fills.proofs.Stand.{Stand, stand-start, stand-measured, stand-stopped, stand-gap, stand-end, gap-moves}
-use Rattle.fills.specs.Windows.{Known}
-use Rattle.fills.proofs.Windows.{unseen}
+use Rattle.fills.specs.Windows.{Peaked}
+use Rattle.fills.proofs.Windows.{no-peak}
 use borrow.Author.Needs.{needs}
 use Rattle.fills.proofs.gaps.fill_along.Statement.{statement}
 use Rattle.fills.proofs.gaps.fill_along.Tie as tie
 
 abbrev Inv-loop : tie.InvT-loop
-Inv-loop states concentrations₀ flows₀ cs ls cpeaks₀ lpeaks₀ cseen₀ lseen₀ empty₀ i₀ concentrations flows cpeaks lpeaks cseen lseen empty i =
+Inv-loop states concentrations₀ flows₀ cs ls cpeaks₀ lpeaks₀ cn₀ ln₀ empty₀ i₀ concentrations flows cpeaks lpeaks cn ln empty i =
     (empty ≤ i) × Stand states concentrations₀ cs concentrations (i - empty) i × Stand states flows₀ ls flows (i - empty) i
-    × (Known cs cpeaks cseen × (cseen .end ≤ i - empty)) × (Known ls lpeaks lseen × (lseen .end ≤ i - empty))
+    × Peaked cs cpeaks cn × Peaked ls lpeaks ln
 
 abbrev μ-loop : tie.MeasureT-loop
-μ-loop states concentrations₀ flows₀ cs ls cpeaks₀ lpeaks₀ cseen₀ lseen₀ empty₀ i₀ concentrations flows cpeaks lpeaks cseen lseen empty i =
+μ-loop states concentrations₀ flows₀ cs ls cpeaks₀ lpeaks₀ cn₀ ln₀ empty₀ i₀ concentrations flows cpeaks lpeaks cn ln empty i =
     length states - i
 
 loop-holds : tie.Need-loop-holds Inv-loop μ-loop
 loop-holds c =
     let p = c .before .before .before .before .before .pre in
-    (search needs, stand-start _ _ _ (p .0) (p .2), stand-start _ _ _ (p .1) (p .3), (unseen _ _ refl, omega arith), (unseen _ _ refl, omega arith))
+    (search needs, stand-start _ _ _ (p .0 .0) (p .0 .2), stand-start _ _ _ (p .0 .1) (p .0 .3), no-peak _ _ (p .1) refl, no-peak _ _ (p .2) refl)
 
 shared-slice-read-s : tie.Need-shared-slice-read-s Inv-loop μ-loop
 shared-slice-read-s c = search needs
@@ -49,8 +49,8 @@ loop-again c =
       omega arith,
       stand-measured _ _ _ _ _ (l .i) end _ (h .loop-test .taken) (c .before .if1 .taken) m b (l .inv .1),
       stand-measured _ _ _ _ _ (l .i) end _ (h .loop-test .taken) (c .before .if1 .taken) m b (l .inv .2),
-      (l .inv .3 .0, omega (arith, l .inv .3 .1)),
-      (l .inv .4 .0, omega (arith, l .inv .4 .1)),
+      l .inv .3,
+      l .inv .4,
     )
 
 scan-requires : tie.Need-scan-requires Inv-loop μ-loop
@@ -67,7 +67,7 @@ fill-one-requires c κs =
     let g = c .before .before in
     let l = g .before .before .before .before .before .loop in
     let s = g .scan .ensures in
-    ((omega (arith, s .begins), s .ends, omega (arith, s .ends)), (l .inv .3 .0, l .inv .3 .1, l .inv .1 .in-kept))
+    ((omega (arith, s .begins), s .ends, omega (arith, s .ends)), (l .inv .3, l .inv .1 .in-kept))
 
 slice-aggregate-fill-one-2 : tie.Need-slice-aggregate-fill-one-2 Inv-loop μ-loop
 slice-aggregate-fill-one-2 c = search needs
@@ -77,7 +77,7 @@ fill-one-requires-2 c κs =
     let g = c .before .before .before .before .before .before .before .before in
     let l = g .before .before .before .before .before .loop in
     let s = g .scan .ensures in
-    ((omega (arith, s .begins), s .ends, omega (arith, s .ends)), (l .inv .4 .0, l .inv .4 .1, l .inv .2 .in-kept))
+    ((omega (arith, s .begins), s .ends, omega (arith, s .ends)), (l .inv .4, l .inv .2 .in-kept))
 
 sub-empty : tie.Need-sub-empty Inv-loop μ-loop
 sub-empty c =
@@ -110,8 +110,8 @@ loop-again-2 c =
       omega arith,
       stand-gap _ _ _ _ _ (l .i) (h .loop-test .taken) (l .inv .1) (g .before .if2 .taken) _ n s _ (c₁ .0) _ b,
       stand-gap _ _ _ _ _ (l .i) (h .loop-test .taken) (l .inv .2) (g .before .if2 .taken) _ n s _ (l₁ .0) _ b,
-      (c₁ .1, omega (arith, c₁ .2)),
-      (l₁ .1, omega (arith, l₁ .2)),
+      c₁ .1,
+      l₁ .1,
     )
 
 add-empty : tie.Need-add-empty Inv-loop μ-loop
@@ -131,8 +131,8 @@ loop-again-3 c =
       omega arith,
       stand-stopped _ _ _ _ _ (l .i) (h .loop-test .taken) (l .inv .1) (c .before .if1 .left) (c .if2 .left) _ b,
       stand-stopped _ _ _ _ _ (l .i) (h .loop-test .taken) (l .inv .2) (c .before .if1 .left) (c .if2 .left) _ b,
-      (l .inv .3 .0, omega (arith, l .inv .3 .1)),
-      (l .inv .4 .0, omega (arith, l .inv .4 .1)),
+      l .inv .3,
+      l .inv .4,
     )
 
 same-length : tie.Need-same-length Inv-loop μ-loop

@@ -1,8 +1,11 @@
 -- `fills::gaps::fill_gaps` meets its contract. Assumes nothing.
 use mathlib.Core.Path.{_∙_, ap}
-use Prim.Native.Nat.{ℕ}
+use mathlib.Core.List.{List}
+use Prim.Native.Nat.{ℕ, _-_, _≤_}
 use native.Mathlib.Nat.{sub-zero}
-use lib.ListN.{take}
+use native.Mathlib.Omega.{arith}
+use lib.ListN.{length, take, length-take}
+use Rattle.law.specs.Numbers.{mostHours}
 use borrow.Author.Needs.{needs}
 use Rattle.fills.proofs.gaps.fill_gaps.Statement.{statement}
 use Rattle.fills.proofs.gaps.fill_gaps.Tie as tie
@@ -41,7 +44,11 @@ fill-along-requires c κs =
     let g = c .before .before .before .before .before .before .before .before in
     let e = g .gather .ensures in
     let p = g .before .before .before .before .before .before .before .before .pre in
-    (p .1, p .2, ap (λ (k : ℕ). take k (g .gather .last .1 .1 .1 .0)) (sub-zero (g .gather .result)) ∙ e .1, ap (λ (k : ℕ). take k (g .gather .last .1 .1 .1 .1 .0)) (sub-zero (g .gather .result)) ∙ e .2)
+    let few : (s : List ℕ) → length (take (g .gather .result - 0) s) ≤ mostHours = λ s. omega (arith, length-take (g .gather .result - 0) s, e .0, p .0) in (
+      (p .1, p .2, ap (λ (k : ℕ). take k (g .gather .last .1 .1 .1 .0)) (sub-zero (g .gather .result)) ∙ e .1, ap (λ (k : ℕ). take k (g .gather .last .1 .1 .1 .1 .0)) (sub-zero (g .gather .result)) ∙ e .2),
+      few (g .gather .last .1 .1 .1 .0),
+      few (g .gather .last .1 .1 .1 .1 .0),
+    )
 
 same-length : tie.Need-same-length
 same-length c = search needs

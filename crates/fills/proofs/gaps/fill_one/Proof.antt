@@ -46,14 +46,13 @@ same-length-2 c = search needs
 
 returns : tie.Need-returns
 returns c =
-    let f = c .before .before .before in
+    let f = c .before .before in
     let v = f .before .before .before .before .before .before in
     let a = v .before .before .before .before .before .before .args in
     let e = v .fill-of .ensures in (
       part-filled (now (a .states)) (now (a .values)) _ (v .fill-of .result .value) (a .first) (a .gap .next) (f .filler .ensures)
           ∙ ap (λ (z : ℕ). patched (now (a .states)) z (a .first) (a .gap .next) (now (a .values))) (e .0),
       e .1,
-      e .2,
     )
 
 pub fill-one-spec : {M : Type 1} → statement M
