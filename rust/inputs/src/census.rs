@@ -21,10 +21,12 @@ pub enum Fill {
     LargestOf720Before,
     LargestOfAllAfter,
     LargestOf720After,
+    /// Of the 720 before a long gap that has another one before it: what one looked through, the other may know.
+    LargestOf720Again,
 }
 
 impl Fill {
-    pub const ALL: [Fill; 7] = [
+    pub const ALL: [Fill; 8] = [
         Fill::MeanOfBoth,
         Fill::OnlyBefore,
         Fill::OnlyAfter,
@@ -32,15 +34,18 @@ impl Fill {
         Fill::LargestOf720Before,
         Fill::LargestOfAllAfter,
         Fill::LargestOf720After,
+        Fill::LargestOf720Again,
     ];
 
-    fn of_gap(length: usize, before: usize, after: usize) -> Self {
+    /// Of a gap of `length` hours; `again` where a long one stands before it.
+    fn of_gap(length: usize, before: usize, after: usize, again: bool) -> Self {
         match (length <= 24, before, after) {
             (true, 0, _) => Fill::OnlyAfter,
             (true, _, 0) => Fill::OnlyBefore,
             (true, _, _) => Fill::MeanOfBoth,
             (false, 0, 721..) => Fill::LargestOf720After,
             (false, 0, _) => Fill::LargestOfAllAfter,
+            (false, 721.., _) if again => Fill::LargestOf720Again,
             (false, 721.., _) => Fill::LargestOf720Before,
             (false, _, _) => Fill::LargestOfAllBefore,
         }
@@ -51,12 +56,14 @@ impl Fill {
 fn fills(hours: &[Running]) -> Vec<Fill> {
     let valid = hours.iter().filter(|hour| hour.is_valid()).count();
     let mut before = 0;
+    let mut again = false;
     let mut fills = Vec::new();
     for run in hours.chunk_by(|one, next| one.is_valid() == next.is_valid()) {
         if run[0].is_valid() {
             before += run.len();
         } else {
-            fills.push(Fill::of_gap(run.len(), before, valid - before));
+            fills.push(Fill::of_gap(run.len(), before, valid - before, again));
+            again |= run.len() > 24;
         }
     }
     fills
@@ -72,7 +79,7 @@ pub struct Census {
     pub bytes: u64,
     pub numbers: [u64; 19],
     pub methods: [u64; 5],
-    pub fills: [u64; 7],
+    pub fills: [u64; 8],
     pub outages: BTreeMap<Outage, u64>,
     pub water: BTreeMap<Water, u64>,
     /// What 2 is given for.

@@ -20,7 +20,7 @@ pub const LONG: usize = 33;
 /// The days of a line.
 pub fn days(count: usize, rng: &mut Rng) -> Vec<Day> {
     if count >= LONG && rng.chance(2, 3) {
-        return window(count, rng);
+        return if rng.chance(1, 4) { windows(count, rng) } else { window(count, rng) };
     }
     let hours = match rng.below(16) {
         0 => vec![Hour::Stopped; 24 * count],
@@ -139,6 +139,20 @@ fn window(count: usize, rng: &mut Rng) -> Vec<Day> {
         let low = (rng.below(50_000) as f32 / 100.0, rng.below(500_000) as f32 / 3.0);
         (low.0 + height(peaks.0) as f32, low.1 + 1_000.0 * height(peaks.1) as f32)
     })
+}
+
+/// Long gaps in turn, on readings that fall, vary or rise: windows overlap, and their largest values are left behind.
+fn windows(count: usize, rng: &mut Rng) -> Vec<Day> {
+    let mut hours = mostly_measured(count, rng);
+    let all = running(&hours).len();
+    let length = rng.pick(&[25, 25, 26, 40]);
+    let turn = rng.between(4 * length, 4 * length + 100);
+    for start in (rng.below(turn)..all.saturating_sub(length)).step_by(turn) {
+        carve(&mut hours, start, length);
+    }
+    let falls = [rng.below(3), rng.below(3)];
+    let mut height = |fall: usize, hour: usize| [24 * count - hour, rng.below(24 * count), hour][fall];
+    days_of(&hours, |hour| (height(falls[0], hour) as f32 / 8.0, 100.0 * height(falls[1], hour) as f32))
 }
 
 /// Where concentration and flow peak: the measured hours number 715 to 723, counted from the gap; surveyed ones may
