@@ -39,7 +39,7 @@ extern "C" {
  * than 100. Measured, not proved: read off the machine code of libdoarpezwim.a, and seen on a stack that was painted.
  * Where memset and memcpy of the C library are bound at their first call, the loader takes some more for itself.
  */
-#define DOARPEZWIM_STACK_BYTES 32752
+#define DOARPEZWIM_STACK_BYTES 33136
 
 /* The numbers that are answered; docs/REFUSALS.md says more of each, and what to do. 3 is no longer one of them. */
 enum doarpezwim_refusal {

@@ -87,7 +87,7 @@ fn cases() -> [Case; CASES] {
         },
         Case {
             name: "gaps",
-            text: "92 days, 75 measured, 25 dark in turn",
+            text: "92 days, 25 dark after each 75",
             file: stacks(1, 92, |hour| hour % 100 >= 75, rng),
         },
     ]
