@@ -11,9 +11,6 @@ use Rattle.law.specs.Words.{table, over}
 pub lesser : (m n a b : ℕ) → a ≡ min m n → b ≡ min m n → a ≡ b
 lesser m n a b p q = p ∙ sym q
 
-pub clear : (cells a b : List ℕ) → a ≡ table (λ h. 0) (length cells) → b ≡ table (λ h. 0) (length cells) → a ≡ b
-clear cells a b p q = p ∙ sym q
-
 pub clear-first : (cells a b : List ℕ) (n : ℕ) → a ≡ over (λ h. 0) (min n (length cells)) cells → b ≡ over (λ h. 0) (min n (length cells)) cells → a ≡ b
 clear-first cells a b n p q = p ∙ sym q
 

@@ -7,7 +7,7 @@ ghost use Rattle.law.specs.Numbers.{mostHours};
 ghost use Rattle.law.specs.Words.{table, over};
 
 // Every cell becomes 0.
-pub fn clear(cells: &mut [u32])
+fn clear(cells: &mut [u32])
     ensures { λ _. ⌜ now (cells .exit) ≡ table (λ h. 0) (length (now (cells .entry))) ⌝ }
 {
     let mut i: usize = 0;

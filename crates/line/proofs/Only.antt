@@ -2,20 +2,13 @@
 use mathlib.Core.Path.{_≡_, _∙_, sym}
 use mathlib.Core.Bool.{Bool}
 use mathlib.Core.List.{List}
-use Prim.Native.Nat.{ℕ, _*_, max}
-use Rattle.law.specs.Numbers.{hoursOfDay}
+use Prim.Native.Nat.{ℕ, _*_}
 use Rattle.rules.specs.declared.Survey.{Survey}
 use Rattle.rules.specs.declared.View.{View}
 use Rattle.line.specs.declared.surveyed.Weighed.{Weighed}
 use Rattle.line.specs.Line.{rowIn}
 use Rattle.line.specs.Put.{Tables, SurveyPut, PlantPut}
 use Rattle.line.specs.Days.{firstLacking, DayPut, DayPlantPut}
-
-pub larger : (a b m n : ℕ) → m ≡ max a b → n ≡ max a b → m ≡ n
-larger a b m n p q = cc
-
-pub hours-of : (days a b : ℕ) → a ≡ hoursOfDay * days → b ≡ hoursOfDay * days → a ≡ b
-hours-of days a b p q = cc
 
 pub product : (c l a b : ℕ) → a ≡ c * l → b ≡ c * l → a ≡ b
 product c l a b p q = cc

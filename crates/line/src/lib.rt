@@ -1,4 +1,4 @@
-// The figures of a line: the larger sulphur, its hours, c x l, its row; a survey put in and weighed, by hours and by days.
+// The figures of a line: c x l, its row; a survey put in and weighed, by hours and by days.
 mod days;
 mod marked;
 mod surveyed;
@@ -11,23 +11,8 @@ pub use surveyed::Weighed;
 pub use surveyed::put_plant;
 pub use surveyed::put_survey;
 ghost use mathlib.Core.Path.{_≡_};
-ghost use Prim.Native.Nat.{_*_, max};
-ghost use Rattle.law.specs.Numbers.{hoursOfDay};
+ghost use Prim.Native.Nat.{_*_};
 ghost use Rattle.line.specs.Line.{rowIn};
-
-// "The largest sulphur of any batch", a batch at a time.
-pub fn larger(a: u16, b: u16) -> u16
-    ensures { λ r. ⌜ r ≡ max a b ⌝ }
-{
-    if a <= b { b } else { a }
-}
-
-// "Hours count .. through the period": 24 a day.
-pub fn hours_of(days: u8) -> u32
-    ensures { λ r. ⌜ r ≡ hoursOfDay * days ⌝ }
-{
-    24 * (days as u32)
-}
 
 // c x l of an hour.
 pub fn product(c: u32, l: u32) -> u64
