@@ -1,15 +1,15 @@
 -- The answer of each call from what its face promises. Assumes nothing.
-use mathlib.Core.Path.{_≡_, ap}
+use mathlib.Core.Path.{_≡_, ap, ap₂, _∙_}
 use mathlib.Core.List.{List, _++_}
 use Prim.Native.Nat.{ℕ}
 use native.Mathlib.Omega.{arith}
 use lib.ListN.{length, replicate, length-take}
 use lib.Ieee.{Float, binary32, binary64, ofBits}
-use Rattle.text.specs.Written.{Wrote}
-use Rattle.text.proofs.Wrote.{wrote-as}
-use Rattle.doarpezwim.specs.Faces.{panelOf, AccountFace, PanelFace, PartFace}
-use Rattle.calls.specs.Bytes.{u32Bytes}
-use Rattle.calls.specs.Answers.{Answered, leftBytes, accountBytes, stateBytes, panelBytes, surveyBytes}
+use Rattle.law.specs.Written.{Wrote}
+use Rattle.law.proofs.Wrote.{wrote-as}
+use Rattle.doarpezwim.specs.Faces.{panelOf, AccountFace, PanelFace, PartFace, ImportFace}
+use Rattle.field.specs.Bytes.{u32Bytes, u64Bytes, cellsBytes}
+use Rattle.calls.specs.Answers.{Answered, leftBytes, accountBytes, stateBytes, panelBytes, surveyBytes, lentBytes, importBytes, ImportAnswered}
 
 module _ (old new : List ℕ) (to : ℕ) where
   -- what is written fits
@@ -41,3 +41,12 @@ module _ (old new : List ℕ) (to : ℕ) where
   part-wrote bytes n part' f w =
       let e : u32Bytes n ++ part' ≡ surveyBytes bytes = cc in
       answered (u32Bytes n ++ part') (surveyBytes bytes) e w
+
+  -- the buffer that the import was lent is the filled one
+  pub import-wrote : (text records : List ℕ) (seed room number : ℕ) (answer' records' : List ℕ) → records ≡ lentBytes seed room → ImportFace text records number answer' records'
+      → Wrote old 0 (cellsBytes u64Bytes answer' ++ records') new to → ImportAnswered text seed room old new to
+  unfolding importBytes
+  import-wrote text records seed room number answer' records' er f w =
+      let e : cellsBytes u64Bytes answer' ++ records' ≡ importBytes (f .near) text records = ap₂ (λ (x y : List ℕ). cellsBytes u64Bytes x ++ y) (f .answers) (f .leaves) in
+      let all = cellsBytes u64Bytes answer' ++ records' in
+      record { near = f .near; nearest = f .nearest; answered = answered all (importBytes (f .near) text (lentBytes seed room)) (e ∙ ap (importBytes (f .near) text) er) w }

@@ -1,4 +1,3 @@
 -- Numbers written as bytes, floats by their patterns, and the answer of each call.
-pub mod Puts
 pub mod Patterns
 pub mod Answers

@@ -1,4 +1,4 @@
--- What the program writes for each of its three calls, by what the face promises.
+-- What the program writes for each of its four calls, by what the face promises.
 use Prim.Native.Nat.{ℕ, _+_, _*_, _%_, _^_, _≤_}
 use mathlib.Core.List.{List, [], _++_}
 use lib.ListN.{length, replicate}
@@ -6,11 +6,13 @@ use lib.Dec.{eqb}
 use lib.Ieee.{Float, binary32, binary64, ofBits, toBits}
 use Rattle.law.specs.Numbers.{totalCells}
 use Rattle.law.specs.Words.{pick, table}
-use Rattle.text.specs.Written.{Wrote}
+use Rattle.law.specs.Written.{Wrote}
 use Rattle.rules.specs.Row.{concentrationCells, flowCells}
 use Rattle.rules.specs.Account.{answerOf, rowsAfter, workAfter}
-use Rattle.doarpezwim.specs.Faces.{answerCells, panelOf, faceStep}
-use Rattle.calls.specs.Bytes.{u32Bytes, u64Bytes, cellsBytes}
+use Rattle.nearest.specs.Nearest.{ToNearest}
+use Rattle.import.specs.Import.{answerOf as importOf, bufferAfter}
+use Rattle.doarpezwim.specs.Faces.{answerCells, importCells, panelOf, faceStep}
+use Rattle.field.specs.Bytes.{u32Bytes, u64Bytes, cellsBytes}
 
 -- bytes written at the start of a buffer that holds them all
 pub record Answered (bytes old new : List ℕ) (end : ℕ) : Type 0 where
@@ -20,6 +22,10 @@ pub record Answered (bytes old new : List ℕ) (end : ℕ) : Type 0 where
 -- "row cell i, concentration cell i and flow cell i each hold (seed + i) mod 2^32"
 unfoldable pub lentCells : ℕ → ℕ → List ℕ
 lentCells seed n = table (λ i. (seed + i) % 2 ^ 32) n
+
+-- byte i of the lent buffer holds (seed + i) mod 2^32 mod 256
+unfoldable pub lentBytes : ℕ → ℕ → List ℕ
+lentBytes seed n = table (λ i. (seed + i) % 2 ^ 32 % 256) n
 
 -- eight bytes for each cell of an answer: number, place, row count and totals
 abbrev pub answerBytes : ℕ
@@ -52,3 +58,13 @@ panelBytes total hours missing kind concentration flow =
 -- "u32 length (14 or 0), 14 bytes (all 0xAA before the call)"
 unfoldable pub surveyBytes : List ℕ → List ℕ
 surveyBytes part = u32Bytes (length part) ++ pick (eqb (length part) 14) part (replicate 14 0xaa)
+
+-- 3 u64: number, line, count; then every byte of the buffer as it stands after the call
+unfoldable pub importBytes : (ℕ → ℕ → ℕ) → List ℕ → List ℕ → List ℕ
+importBytes near text records = cellsBytes u64Bytes (importCells (importOf (length records) text)) ++ bufferAfter near text records
+
+-- the answer of an import into a buffer of so many bytes, by the nearest patterns
+pub record ImportAnswered (text : List ℕ) (seed room : ℕ) (old new : List ℕ) (end : ℕ) : Type 0 where
+  pub near : ℕ → ℕ → ℕ
+  pub nearest : ToNearest near
+  pub answered : Answered (importBytes near text (lentBytes seed room)) old new end

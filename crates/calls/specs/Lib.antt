@@ -1,4 +1,3 @@
 -- The answers of the program's frames as bytes, and its room.
-pub mod Bytes
 pub mod Answers
 pub mod Sized

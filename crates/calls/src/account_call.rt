@@ -3,7 +3,7 @@ use crate::bytes;
 use crate::lent;
 ghost use Prim.Native.Nat.{_+_, _*_, _≤_, _<_};
 ghost use lib.ListN.{length};
-ghost use Rattle.text.specs.Written.{Wrote};
+ghost use Rattle.law.specs.Written.{Wrote};
 ghost use Rattle.calls.specs.Answers.{Answered, lentCells, answerBytes, leftBytes, accountBytes};
 
 // The answer's cells, and behind them every lent cell.

@@ -1,8 +1,8 @@
 // Numbers written into a lent buffer, little-endian, each behind the last.
 ghost use Prim.Native.Nat.{_+_, _*_, _≤_};
 ghost use lib.ListN.{length};
-ghost use Rattle.text.specs.Written.{Wrote};
-ghost use Rattle.calls.specs.Bytes.{u32Bytes, u64Bytes, cellsBytes};
+ghost use Rattle.law.specs.Written.{Wrote};
+ghost use Rattle.field.specs.Bytes.{u32Bytes, u64Bytes, cellsBytes};
 
 // A number's four bytes, and the place behind them.
 pub fn put_u32(out: &mut [u8], at: usize, x: u32) -> usize

@@ -1,5 +1,6 @@
 // One frame: its header and its bytes read, its call made, its answer written.
 use crate::account_call;
+use crate::import_call;
 use crate::panel_call;
 use crate::survey_call;
 ghost use Prim.Native.Nat.{_≤_};
@@ -116,6 +117,35 @@ fn survey_frame(h: Header, file: &mut [u8], out: &mut [u8]) -> usize
     survey_call::answer(&file[0..e], &file[e..n], hour, out)
 }
 
+// The import's answer to a text; 0 where more bytes are to be lent than there are.
+fn import_of(h: Header, text: &[u8], out: &mut [u8]) -> usize
+    ensures { λ r. ⌜ r ≤ length (now (out .exit)) ⌝ }
+{
+    let mut records = [0u8; 20_000];
+    let n = h.b as usize;
+    if n > 20_000 {
+        return 0;
+    }
+    if out.len() < 24 + n {
+        return 0;
+    }
+    import_call::answer(text, &mut records[0..n], h.c, out)
+}
+
+// The import's answer; 0 where the frame is larger than its room or cut short.
+fn import_frame(h: Header, file: &mut [u8], out: &mut [u8]) -> usize
+    ensures { λ r. ⌜ r ≤ length (now (out .exit)) ⌝ }
+{
+    let n = h.a as usize;
+    if file.len() < n {
+        return 0;
+    }
+    if !read_bytes(&mut file[0..n]) {
+        return 0;
+    }
+    import_of(h, &file[0..n], out)
+}
+
 // The answer by the call; 0 for an unknown one.
 fn answer_frame(h: Header, file: &mut [u8], out: &mut [u8]) -> usize
     ensures { λ r. ⌜ r ≤ length (now (out .exit)) ⌝ }
@@ -125,6 +155,7 @@ fn answer_frame(h: Header, file: &mut [u8], out: &mut [u8]) -> usize
         1 => account_frame(h, file, out),
         2 => panel_frame(h, file, out),
         3 => survey_frame(h, file, out),
+        4 => import_frame(h, file, out),
         _ => 0,
     }
 }

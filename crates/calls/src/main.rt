@@ -3,6 +3,7 @@ mod account_call;
 mod bytes;
 mod floats;
 mod frame;
+mod import_call;
 mod lent;
 mod panel_call;
 mod survey_call;

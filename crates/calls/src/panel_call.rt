@@ -3,7 +3,7 @@ use crate::bytes;
 use crate::floats;
 ghost use Prim.Native.Nat.{_≤_};
 ghost use lib.ListN.{length};
-ghost use Rattle.text.specs.Written.{Wrote};
+ghost use Rattle.law.specs.Written.{Wrote};
 ghost use Rattle.calls.specs.Answers.{Answered, stateBytes, panelBytes};
 
 // An hour's number, and the state after it.

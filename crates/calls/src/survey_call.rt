@@ -3,9 +3,9 @@ use crate::bytes;
 ghost use Prim.Native.Nat.{_≤_};
 ghost use mathlib.Core.List.{_++_};
 ghost use lib.ListN.{length};
-ghost use Rattle.text.specs.Written.{Wrote};
+ghost use Rattle.law.specs.Written.{Wrote};
 ghost use Rattle.survey.specs.Governing.{governing};
-ghost use Rattle.calls.specs.Bytes.{u32Bytes};
+ghost use Rattle.field.specs.Bytes.{u32Bytes};
 ghost use Rattle.calls.specs.Answers.{Answered, surveyBytes};
 
 // A length, and the 14 bytes behind it.

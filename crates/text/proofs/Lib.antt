@@ -1,5 +1,4 @@
 -- What stands in the buffer as it is written, and that no second answer meets the promise of a public call.
-pub mod Wrote
 pub mod Numbers
 pub mod Spaced
 pub mod Rows

@@ -12,8 +12,8 @@ use Rattle.law.specs.Words.{pick}
 use Rattle.law.proofs.Tests.{pick-case}
 use Rattle.io.specs.Digits.{digits, glyph, Fewest}
 use Rattle.text.specs.Numbers.{decimalFrom, decimal}
-use Rattle.text.specs.Written.{Wrote}
-use Rattle.text.proofs.Wrote.{wrote-on, wrote-as}
+use Rattle.law.specs.Written.{Wrote}
+use Rattle.law.proofs.Wrote.{wrote-on, wrote-as}
 
 digit : (n : ℕ) → glyph (n % 10) ≡ 48 + n % 10
 digit n = ap (λ (t : Bool). cond t (48 + n % 10) (87 + n % 10)) (lt-ltb (n % 10) 10 (omega arith))

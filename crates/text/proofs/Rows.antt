@@ -5,8 +5,8 @@ use Prim.Native.Nat.{ℕ, zero, suc, _+_, _-_, _*_, _<_, _≤_}
 use native.Mathlib.Omega.{arith}
 use lib.ListN.{length, take, drop, length-append, length-take}
 use Rattle.text.specs.Numbers.{spaced}
-use Rattle.text.specs.Written.{Wrote}
-use Rattle.text.proofs.Wrote.{wrote-none, wrote-on, wrote-as}
+use Rattle.law.specs.Written.{Wrote}
+use Rattle.law.proofs.Wrote.{wrote-none, wrote-on, wrote-as}
 use Rattle.text.proofs.Spaced.{spaced-most}
 use Rattle.text.specs.Text.{rowsText}
 

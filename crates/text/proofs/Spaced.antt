@@ -6,8 +6,8 @@ use native.Mathlib.Omega.{arith}
 use lib.ListN.{length, drop, getD, length-append, drop-of-length-le}
 use lib.Seq.{drop-cons}
 use Rattle.text.specs.Numbers.{decimal, spaced}
-use Rattle.text.specs.Written.{Wrote}
-use Rattle.text.proofs.Wrote.{wrote-none, wrote-on, wrote-as}
+use Rattle.law.specs.Written.{Wrote}
+use Rattle.law.proofs.Wrote.{wrote-none, wrote-on, wrote-as}
 use Rattle.text.proofs.Numbers.{decimal-most}
 
 -- one number more, and the last

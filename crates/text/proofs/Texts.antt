@@ -8,7 +8,7 @@ use lib.ListN.{length, drop, length-append, take-append-drop}
 use lib.Dec.{leb}
 use Rattle.law.specs.Words.{need}
 use Rattle.law.proofs.Tests.{need-le, need-not-le, need-case}
-use Rattle.text.specs.Written.{Wrote}
+use Rattle.law.specs.Written.{Wrote}
 use Rattle.text.specs.Text.{Text, statedText, statedLines}
 
 -- ---- a text from the start of the buffer

@@ -2,5 +2,4 @@
 pub mod Numbers
 pub mod Line
 pub mod Text
-pub mod Written
 pub mod Opened

@@ -3,7 +3,7 @@ ghost use Prim.Native.Nat.{_*_, _≤_};
 ghost use lib.ListN.{length};
 ghost use Rattle.law.specs.Numbers.{rowCells};
 ghost use Rattle.rules.specs.Judge.{refuse};
-ghost use Rattle.text.specs.Written.{Wrote};
+ghost use Rattle.law.specs.Written.{Wrote};
 ghost use Rattle.text.specs.Line.{refusedLine};
 ghost use Rattle.text.specs.Text.{Text, rowsText, statedLines};
 use crate::writing::put_bytes;

@@ -3,7 +3,7 @@ ghost use mathlib.Core.List.{[], _∷_, _++_};
 ghost use Prim.Native.Nat.{_+_, _*_, _<_, _≤_};
 ghost use lib.ListN.{length};
 ghost use Rattle.text.specs.Numbers.{decimal, spaced};
-ghost use Rattle.text.specs.Written.{Wrote};
+ghost use Rattle.law.specs.Written.{Wrote};
 
 // Bytes from a place on.
 pub fn put_bytes(text: &mut [u8], at: usize, bytes: &[u8]) -> usize

@@ -2,7 +2,7 @@
 use borrow.Author.Needs.{needs}
 use Rattle.rules.specs.Judge.{refuse}
 use Rattle.text.specs.Line.{refusedLine}
-use Rattle.text.proofs.Wrote.{wrote-on}
+use Rattle.law.proofs.Wrote.{wrote-on}
 use Rattle.text.proofs.Texts.{text-is, text-short}
 use Rattle.text.proofs.refused_text.Statement.{statement}
 use Rattle.text.proofs.refused_text.Tie as tie

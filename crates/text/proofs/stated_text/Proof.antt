@@ -3,7 +3,7 @@ use native.Mathlib.Omega.{arith}
 use borrow.Author.Needs.{needs}
 use Rattle.text.specs.Line.{totalsLine}
 use Rattle.text.specs.Text.{statedText}
-use Rattle.text.proofs.Wrote.{wrote-on}
+use Rattle.law.proofs.Wrote.{wrote-on}
 use Rattle.text.proofs.Rows.{rows-end}
 use Rattle.text.proofs.Texts.{text-is, text-as, text-short, text-none, too-many, not-there, all-there}
 use Rattle.text.proofs.stated_text.Statement.{statement}

@@ -1,7 +1,7 @@
 -- `calls::account_call::put_left` meets its contract: four lists of cells, one behind the other. Assumes nothing.
 use native.Mathlib.Omega.{arith}
 use Rattle.calls.specs.Answers.{leftBytes}
-use Rattle.calls.proofs.Puts.{u32-sized, u64-sized, cells-ends, wrote-joined}
+use Rattle.field.proofs.Puts.{u32-sized, u64-sized, cells-ends, wrote-joined}
 use borrow.Author.Needs.{needs}
 use Rattle.calls.proofs.account_call.put_left.Statement.{statement}
 use Rattle.calls.proofs.account_call.put_left.Tie as tie

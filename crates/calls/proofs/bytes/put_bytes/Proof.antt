@@ -4,7 +4,7 @@ use Prim.Native.Nat.{_-_}
 use native.Mathlib.Omega.{arith}
 use lib.ListN.{length}
 use borrow.Author.Needs.{needs}
-use Rattle.text.proofs.Wrote.{Copying, copying-start, copying-on, copying-done}
+use Rattle.law.proofs.Wrote.{Copying, copying-start, copying-on, copying-done}
 use Rattle.calls.proofs.bytes.put_bytes.Statement.{statement}
 use Rattle.calls.proofs.bytes.put_bytes.Tie as tie
 

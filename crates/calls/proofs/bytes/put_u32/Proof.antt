@@ -2,8 +2,8 @@
 use native.Mathlib.Omega.{arith}
 use lib.ListN.{length-set}
 use borrow.Author.Needs.{needs}
-use Rattle.calls.specs.Bytes.{u32Bytes}
-use Rattle.calls.proofs.Puts.{wrote-four}
+use Rattle.field.specs.Bytes.{u32Bytes}
+use Rattle.field.proofs.Puts.{wrote-four}
 use Rattle.calls.proofs.bytes.put_u32.Statement.{statement}
 use Rattle.calls.proofs.bytes.put_u32.Tie as tie
 

@@ -3,8 +3,8 @@ use Prim.Native.Nat.{_-_}
 use native.Mathlib.Omega.{arith}
 use lib.ListN.{length}
 use borrow.Author.Needs.{needs}
-use Rattle.calls.specs.Bytes.{u32Bytes}
-use Rattle.calls.proofs.Puts.{u32-sized, Putting, putting-start, putting-on, putting-done}
+use Rattle.field.specs.Bytes.{u32Bytes}
+use Rattle.field.proofs.Puts.{u32-sized, Putting, putting-start, putting-on, putting-done}
 use Rattle.calls.proofs.bytes.put_u32s.Statement.{statement}
 use Rattle.calls.proofs.bytes.put_u32s.Tie as tie
 

@@ -1,9 +1,9 @@
 -- `calls::bytes::put_u64` meets its contract: its two halves. Assumes nothing.
 use native.Mathlib.Omega.{arith}
 use borrow.Author.Needs.{needs}
-use Rattle.text.proofs.Wrote.{wrote-on}
-use Rattle.calls.specs.Bytes.{u64Bytes}
-use Rattle.calls.proofs.Puts.{u32-ends}
+use Rattle.law.proofs.Wrote.{wrote-on}
+use Rattle.field.specs.Bytes.{u64Bytes}
+use Rattle.field.proofs.Puts.{u32-ends}
 use Rattle.calls.proofs.bytes.put_u64.Statement.{statement}
 use Rattle.calls.proofs.bytes.put_u64.Tie as tie
 

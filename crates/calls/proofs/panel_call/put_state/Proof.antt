@@ -1,10 +1,10 @@
 -- `calls::panel_call::put_state` meets its contract: four numbers, one behind the other. Assumes nothing.
 use mathlib.Core.Path.{ap}
 use native.Mathlib.Omega.{arith}
-use Rattle.text.proofs.Wrote.{wrote-as}
-use Rattle.calls.specs.Bytes.{u64Bytes}
+use Rattle.law.proofs.Wrote.{wrote-as}
+use Rattle.field.specs.Bytes.{u64Bytes}
 use Rattle.calls.specs.Answers.{stateBytes}
-use Rattle.calls.proofs.Puts.{u32-ends, u64-ends, wrote-joined}
+use Rattle.field.proofs.Puts.{u32-ends, u64-ends, wrote-joined}
 use borrow.Author.Needs.{needs}
 use Rattle.calls.proofs.panel_call.put_state.Statement.{statement}
 use Rattle.calls.proofs.panel_call.put_state.Tie as tie

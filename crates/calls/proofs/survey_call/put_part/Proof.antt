@@ -1,7 +1,7 @@
 -- `calls::survey_call::put_part` meets its contract: a number and bytes, one behind the other. Assumes nothing.
 use native.Mathlib.Omega.{arith}
-use Rattle.text.proofs.Wrote.{wrote-on}
-use Rattle.calls.proofs.Puts.{u32-ends}
+use Rattle.law.proofs.Wrote.{wrote-on}
+use Rattle.field.proofs.Puts.{u32-ends}
 use borrow.Author.Needs.{needs}
 use Rattle.calls.proofs.survey_call.put_part.Statement.{statement}
 use Rattle.calls.proofs.survey_call.put_part.Tie as tie

@@ -1,7 +1,7 @@
 -- `text::writing::put_number` meets its contract: the digits that `io::decimal` hands out, and the byte behind them. Assumes nothing.
 use native.Mathlib.Omega.{arith}
 use borrow.Author.Needs.{needs}
-use Rattle.text.proofs.Wrote.{wrote-byte}
+use Rattle.law.proofs.Wrote.{wrote-byte}
 use Rattle.text.proofs.Numbers.{digits-room, byte-room, number-wrote}
 use Rattle.text.proofs.writing.put_number.Statement.{statement}
 use Rattle.text.proofs.writing.put_number.Tie as tie

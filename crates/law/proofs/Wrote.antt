@@ -6,7 +6,7 @@ use native.Mathlib.Nat.{add-zero}
 use native.Mathlib.Omega.{arith}
 use lib.ListN.{length, take, drop, set, getD, length-append, length-set}
 use lib.Seq.{take-suc, take-suc-set, drop-set-lt, drop-drop, take-length}
-use Rattle.text.specs.Written.{Wrote}
+use Rattle.law.specs.Written.{Wrote}
 
 pub wrote-none : (old : List ℕ) (at : ℕ) → Wrote old at [] old at
 wrote-none old at = record { ends = omega arith; says = sym (append-nil (take at old)); keeps = refl }

@@ -7,9 +7,9 @@ use native.Mathlib.Numerals.{add-one}
 use native.Mathlib.Omega.{arith}
 use lib.ListN.{length, take, set, getD, length-append, length-set}
 use lib.Seq.{take-suc, take-length}
-use Rattle.text.specs.Written.{Wrote}
-use Rattle.text.proofs.Wrote.{wrote-none, wrote-byte, wrote-on, wrote-as}
-use Rattle.calls.specs.Bytes.{u32Bytes, u64Bytes, cellsBytes}
+use Rattle.law.specs.Written.{Wrote}
+use Rattle.law.proofs.Wrote.{wrote-none, wrote-byte, wrote-on, wrote-as}
+use Rattle.field.specs.Bytes.{u32Bytes, u64Bytes, cellsBytes}
 
 -- ---- four bytes, and twice four
 pub wrote-four : (old : List ℕ) (at a b c d : ℕ) → at + 4 ≤ length old → Wrote old at (a ∷ b ∷ c ∷ d ∷ []) (set (set (set (set old at a) (at + 1) b) (at + 2) c) (at + 3) d) (at + 4)

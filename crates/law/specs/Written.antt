@@ -1,4 +1,4 @@
--- What the code needs and no public call promises: bytes written into a lent buffer.
+-- What code that writes promises: bytes written into a lent buffer.
 use Prim.Native.Nat.{ℕ, _+_}
 use mathlib.Core.List.{List, _++_}
 use mathlib.Core.Path.{_≡_}
