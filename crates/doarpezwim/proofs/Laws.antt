@@ -16,14 +16,21 @@ use Rattle.rules.specs.Account.{Promise}
 use Rattle.panel.specs.declared.Panel.{Panel}
 use Rattle.panel.specs.declared.Stepped.{Stepped}
 use Rattle.panel.specs.Panel.{unchanged, panelStep}
+use Rattle.import.specs.declared.Imported.{Imported}
+use Rattle.import.specs.Import.{Promise as Imports}
 use Rattle.survey.specs.Governing.{Part, here, governing}
 use Rattle.survey.proofs.Laws.{governing-shape}
-use Rattle.doarpezwim.specs.Faces.{answerCells, AccountFace, hourOfKind, faceStep, PanelFace, PartFace}
+use Rattle.doarpezwim.specs.Faces.{answerCells, AccountFace, hourOfKind, faceStep, PanelFace, PartFace, importCells, ImportFace}
 
 -- ---- the account
 pub account-face : (file rows concentrations flows : List ℕ) (a : Answer) (answer' rows' concentrations' flows' : List ℕ) → Promise file rows concentrations flows a rows' concentrations' flows' → answer' ≡ answerCells a → AccountFace file rows concentrations flows (a .number) answer' rows' concentrations' flows'
 account-face file rows concentrations flows a answer' rows' concentrations' flows' p e =
     record { returns = ap (λ (x : Answer). x .number) (p .answers); answers = e ∙ ap answerCells (p .answers); leaves = p .leaves; concentrationsHold = p .concentrationsHold; flowsHold = p .flowsHold }
+
+-- ---- the import
+pub import-face : (text records : List ℕ) (a : Imported) (answer' records' : List ℕ) → Imports text records a records' → answer' ≡ importCells a → ImportFace text records (a .number) answer' records'
+import-face text records a answer' records' p e =
+    record { near = p .near; nearest = p .nearest; returns = ap (λ (x : Imported). x .number) (p .answers); answers = e ∙ ap importCells (p .answers); leaves = p .holds }
 
 -- ---- the panel
 module _ (p : Panel) (kind : ℕ) (concentration flow : Float) where

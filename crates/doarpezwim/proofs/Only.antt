@@ -1,10 +1,13 @@
 -- No second number, cells or state meet the promise of a face. Assumes nothing.
-use mathlib.Core.Path.{_≡_, _∙_, sym}
+use mathlib.Core.Path.{_≡_, refl, _∙_, sym}
 use mathlib.Core.List.{List}
 use Prim.Native.Nat.{ℕ}
 use lib.Ieee.{Float}
+use lib.ListN.{length}
 use Rattle.panel.specs.declared.Panel.{Panel}
-use Rattle.doarpezwim.specs.Faces.{AccountFace, PanelFace, PartFace}
+use Rattle.import.specs.Import.{answerOf, Promise}
+use Rattle.import.proofs.Only.{import-only}
+use Rattle.doarpezwim.specs.Faces.{AccountFace, PanelFace, PartFace, ImportFace}
 
 pub doarpezwim-account : (file rows conc flow : List ℕ) (r₁ r₂ : ℕ) (answer₁ answer₂ rows₁ rows₂ conc₁ conc₂ flow₁ flow₂ : List ℕ)
     → AccountFace file rows conc flow r₁ answer₁ rows₁ conc₁ flow₁ → AccountFace file rows conc flow r₂ answer₂ rows₂ conc₂ flow₂
@@ -22,3 +25,12 @@ pub doarpezwim-governing-survey : (bytes part : List ℕ) (r₁ r₂ : ℕ) (par
     → PartFace bytes part r₁ part₁ → PartFace bytes part r₂ part₂
     → (r₁ ≡ r₂) × (part₁ ≡ part₂)
 doarpezwim-governing-survey bytes part r₁ r₂ part₁ part₂ p q = (p .returns ∙ sym (q .returns), p .leaves ∙ sym (q .leaves))
+
+pub doarpezwim-import : (text records : List ℕ) (r₁ r₂ : ℕ) (answer₁ answer₂ records₁ records₂ : List ℕ)
+    → ImportFace text records r₁ answer₁ records₁ → ImportFace text records r₂ answer₂ records₂
+    → (r₁ ≡ r₂) × (answer₁ ≡ answer₂) × (records₁ ≡ records₂)
+doarpezwim-import text records r₁ r₂ answer₁ answer₂ records₁ records₂ p q =
+    let a = answerOf (length records) text in
+    let left : Promise text records a records₁ = record { near = p .near; nearest = p .nearest; answers = refl; holds = p .leaves } in
+    let right : Promise text records a records₂ = record { near = q .near; nearest = q .nearest; answers = refl; holds = q .leaves } in
+    (p .returns ∙ sym (q .returns), p .answers ∙ sym (q .answers), import-only text records a a records₁ records₂ left right .1)

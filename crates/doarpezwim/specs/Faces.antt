@@ -1,6 +1,6 @@
 -- The faces that C and Rust call: what each answers and leaves in the cells lent to it.
 use Prim.Native.Nat.{ℕ}
-use mathlib.Core.List.{List, _∷_}
+use mathlib.Core.List.{List, [], _∷_}
 use mathlib.Core.Path.{_≡_}
 use lib.ListN.{length, getD}
 use lib.Dec.{leb, eqb}
@@ -15,6 +15,9 @@ use Rattle.rules.specs.Account.{answerOf, rowsAfter, workAfter}
 use Rattle.panel.specs.declared.Panel.{Panel}
 use Rattle.panel.specs.declared.Stepped.{Stepped}
 use Rattle.panel.specs.Panel.{unchanged, panelStep}
+use Rattle.nearest.specs.Nearest.{ToNearest}
+use Rattle.import.specs.declared.Imported.{Imported}
+use Rattle.import.specs.Import.{answerOf as importOf, bufferAfter}
 
 -- the eight cells of an answer: "number and place (both 0 on acceptance), row count and" the "five totals"
 unfoldable pub answerCells : Answer → List ℕ
@@ -51,3 +54,15 @@ pub record PanelFace (p : Panel) (kind : ℕ) (concentration flow : Float) (r : 
 pub record PartFace (bytes part : List ℕ) (r : ℕ) (part' : List ℕ) : Type 0 where
   pub returns : r ≡ length bytes
   pub leaves : part' ≡ pick (eqb (length bytes) 14) bytes part
+
+-- the three cells of an import's answer: number, line, and how many bytes are written
+unfoldable pub importCells : Imported → List ℕ
+importCells a = a .number ∷ a .line ∷ a .count ∷ []
+
+-- the promise of `doarpezwim_import`: the number that it returns, the answer's cells, and what it leaves in the lent buffer, by the nearest patterns
+pub record ImportFace (text records : List ℕ) (r : ℕ) (answer' records' : List ℕ) : Type 0 where
+  pub near : ℕ → ℕ → ℕ
+  pub nearest : ToNearest near
+  pub returns : r ≡ importOf (length records) text .number
+  pub answers : answer' ≡ importCells (importOf (length records) text)
+  pub leaves : records' ≡ bufferAfter near text records

@@ -1,7 +1,8 @@
 // What stands between the faces and the calls behind them: an answer in its cells, an hour by its kind, a part copied out.
 ghost use mathlib.Core.Path.{_≡_};
 ghost use lib.ListN.{length};
-ghost use Rattle.doarpezwim.specs.Faces.{answerCells, hourOfKind};
+ghost use Rattle.doarpezwim.specs.Faces.{answerCells, importCells, hourOfKind};
+use import::Imported;
 use reading::Hour;
 use rules::Answer;
 
@@ -20,6 +21,13 @@ pub fn answer_cells(a: Answer) -> [u64; 8]
         totals[3],
         totals[4],
     ]
+}
+
+// The answer of an import, likewise.
+pub fn import_cells(a: Imported) -> [u64; 3]
+    ensures { λ r. ⌜ r ≡ importCells a ⌝ }
+{
+    [a.number as u64, a.line as u64, a.count as u64]
 }
 
 // Kind 0 is a stopped hour, 1 a missing one, 2 a measured one.

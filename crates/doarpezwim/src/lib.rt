@@ -1,6 +1,6 @@
-// The faces for C and Rust: the account, a panel's hour, the governing survey.
+// The faces for C and Rust: the account, a panel's hour, the governing survey, the import of a text.
 ghost use Rattle.survey.specs.Governing.{governing};
-ghost use Rattle.doarpezwim.specs.Faces.{panelOf, AccountFace, PanelFace, PartFace};
+ghost use Rattle.doarpezwim.specs.Faces.{panelOf, AccountFace, PanelFace, PartFace, ImportFace};
 use panel::Panel;
 
 mod faces;
@@ -66,4 +66,14 @@ pub extern "C" fn doarpezwim_governing_survey<'a>(
         return 14;
     }
     0
+}
+
+// Three cells for the answer: number, line, and how many bytes of records were written.
+#[no_mangle]
+pub extern "C" fn doarpezwim_import(text: &[u8], records: &mut [u8], answer: &mut [u64; 3]) -> u32
+    ensures { λ r. ⌜ ImportFace (now (text .entry)) (now (records .entry)) r (now (answer .exit)) (now (records .exit)) ⌝ }
+{
+    let a = import::import_days(text, records);
+    *answer = faces::import_cells(a);
+    a.number
 }
