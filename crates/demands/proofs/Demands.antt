@@ -43,10 +43,13 @@ use Rattle.allowance.proofs.Near.{automatic-near, manual-near, stack-near, outf
 use Rattle.quarter.proofs.account.Met.{met as account-met}
 use Rattle.panel.proofs.Panel.hour.Met.{met as hour-met}
 use Rattle.survey.proofs.governing_survey.Met.{met as governing-met}
+use Rattle.import.proofs.import_days.Met.{met as import-met}
+use Rattle.nearest.proofs.Back.{back}
 use Rattle.demands.specs.Demands.{Call, Result, Lent, Kept, Version, Keeps, Taken, NoneOfFour, EveryRowNear, RefusesAll, PanelExact, Governs, Demands, Code}
 use Rattle.demands.proofs.Falsity.{false-true, differ}
 use Rattle.demands.proofs.Files.{second, two, outfall, dirtier, mixed, callOf, lent-all, rowsTo, Given, given-all}
 use Rattle.demands.proofs.Rows.{row-near}
+use Rattle.demands.proofs.Imports.{brings-in}
 
 -- ---- demand 1
 -- the result that the definitions give
@@ -278,8 +281,10 @@ demands =
       readings = in-units;
       panel = panel-exact;
       survey = governs;
+      imports = brings-in;
+      decimals = back;
     }
 
 -- ---- the code
 pub code : {M : Type 1} → Code M
-code = record { account = account-met; hour = hour-met; survey = governing-met }
+code = record { account = account-met; hour = hour-met; survey = governing-met; import = import-met }

@@ -2,5 +2,8 @@
 pub mod Falsity
 pub mod Files
 pub mod Rows
+pub mod DayBytes
+pub mod Walked
+pub mod Imports
 pub mod Demands
 pub mod Refuted

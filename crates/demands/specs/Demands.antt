@@ -4,7 +4,7 @@ use mathlib.Core.{Bool.Bool, Bool.true, Bool.false, List.List, List._∷_, List.
 use lib.{ListN.length, ListN.take, ListN.drop, ListN.getD, Ieee.Exact.HasValue}
 use denote.Ref.{RefT, ptr, now}
 use Rattle.law.specs.Numbers.{mostHours, rowCells}
-use Rattle.reading.specs.{declared.Hour.Hour, Reading.reading, Reading.allowed, Reading.exact}
+use Rattle.reading.specs.{declared.Hour.Hour, Reading.reading, Reading.allowed, Reading.exact, Reading.rounded}
 use Rattle.rules.specs.{declared.Head.Head, declared.Answer.Answer, Hours.lacking, Lines.StackLine, Outfalls.OutfallLine, Outfalls.Line, Outfalls.OfStack, Measured.Measured, Grams.automatic, Grams.manual, Outfalls.headOfLine, Lines.surveyed, Lines.daysAfter, Alone.noneMissing, Alone.daysAlone, Grams.gramsOf, Row.rowOf, Walk.Accepted, Walk.outcome, Account.Promise}
 use Rattle.answers.specs.{Heads.headsOf, Places.ofField, Places.PointsAt}
 use Rattle.allowance.specs.Allowance.{Filling, inAir, inWater, AutomaticNear, ManualNear, StackNear, OutfallNear, Near}
@@ -13,6 +13,9 @@ use Rattle.survey.specs.Governing.{isSurvey, part, here, governing}
 use Rattle.quarter.proofs.account.Statement.{statement as accountMeets}
 use Rattle.panel.proofs.Panel.hour.Statement.{statement as hourMeets}
 use Rattle.survey.proofs.governing_survey.Statement.{statement as governingMeets}
+use Rattle.import.proofs.import_days.Statement.{statement as importMeets}
+use Rattle.nearest.specs.Nearest.{Nearest}
+use Rattle.demands.specs.Imports.{BringsIn}
 
 -- what an account call is lent: a file, cells for rows, and a work table each for concentration and flow; what it answers, and what the slices hold then
 abbrev pub Call : Type 0
@@ -126,9 +129,16 @@ pub record Demands : Type 0 where
   pub panel : (hs : List Hour) → PanelExact hs
   -- THE GOVERNING SURVEY, of any two slices and any hour
   pub survey : (e p : RefT (List ℕ)) (hour : ℕ) → Governs e p hour
+  -- A TEXT BROUGHT IN (A5), any text into any buffer: one result and no second; the records of one that is accepted say hour by hour what its lines say, and
+  -- the account refuses none of them (read `BringsIn`)
+  pub imports : (text buffer : List ℕ) → BringsIn text buffer
+  -- OVER THE DECIMALS: the reading nearest to n / scale is rounded back to n, at every scale that is fine enough below 2^j; two decimals and none are its
+  -- instances, by 100 and 1
+  pub decimals : (n scale j bits : ℕ) → n < scale * 2 ^ j → scale * 2 ^ j < 2 ^ 24 → Nearest n scale bits → rounded scale (reading bits) ≡ n
 
--- THE CODE: each call itself, as it is compiled, meets the contract that stands at it in src/ (`Promise`, `panelStep`, `governing`), in every model of the machine
+-- THE CODE: each call itself, as it is compiled, meets the contract that stands at it in src/ (`Promise`, `panelStep`, `governing`, and `Promise` of the import), in every model of the machine
 pub record Code (M : Type 1) : Type 2 where
   pub account : accountMeets M
   pub hour : hourMeets M
   pub survey : governingMeets M
+  pub import : importMeets M

@@ -1,2 +1,3 @@
 -- The demands, on one page.
+pub mod Imports
 pub mod Demands
