@@ -21,7 +21,7 @@ quotient() {
 }
 
 printf '%-8s %12s %12s %7s\n' case proved reference ratio
-for case in line lines dark days water gap gaps; do
+for case in line lines dark days water gap gaps text; do
     proved=$(per_call "$case" proved)
     reference=$(per_call "$case" reference)
     printf '%-8s %12s %12s %7s\n' "$case" "$proved" "$reference" "$(quotient "$proved" "$reference")"

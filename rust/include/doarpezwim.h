@@ -1,7 +1,8 @@
 /*
- * Doarpezwim: the quarter account of what stacks and outfalls emit, by document 01 with requests A1 to A3.
+ * Doarpezwim: the quarter account of what stacks and outfalls emit, by document 01 with requests A1 to A3, and the
+ * import of the historian's text export, by request A5.
  *
- * The three functions are proved. For every input that keeps to the rules below they end, read and write nothing but
+ * The four functions are proved. For every input that keeps to the rules below they end, read and write nothing but
  * what they are lent, and answer what the document says. They keep no state, allocate nothing and may be called from
  * several threads at once, each with slices of its own. They are compiled for Linux on x86-64, in libdoarpezwim.a.
  *
@@ -19,9 +20,9 @@ extern "C" {
 #endif
 
 #define DOARPEZWIM_VERSION_MAJOR 0
-#define DOARPEZWIM_VERSION_MINOR 4
+#define DOARPEZWIM_VERSION_MINOR 5
 #define DOARPEZWIM_VERSION_PATCH 0
-#define DOARPEZWIM_VERSION "0.4.0"
+#define DOARPEZWIM_VERSION "0.5.0"
 
 /* Cells that each work slice has to have: the hours of 92 days, also for a file of outfalls. */
 #define DOARPEZWIM_WORK_CELLS 2208
@@ -33,11 +34,17 @@ extern "C" {
 #define DOARPEZWIM_ANSWER_CELLS 8
 /* Bytes of a survey record. */
 #define DOARPEZWIM_SURVEY_BYTES 14
+/* Bytes of a day record, and days that a text export may hold. */
+#define DOARPEZWIM_DAY_BYTES 205
+#define DOARPEZWIM_MOST_DAYS 92
+/* Cells of an import's answer, as enum doarpezwim_import_cell names them. */
+#define DOARPEZWIM_IMPORT_CELLS 3
 
 /*
- * Bytes of stack that a call needs: doarpezwim_account takes 32,640 and what it calls 112 more; the other two take less
- * than 100. Measured, not proved: read off the machine code of libdoarpezwim.a, and seen on a stack that was painted.
- * Where memset and memcpy of the C library are bound at their first call, the loader takes some more for itself.
+ * Bytes of stack that a call needs: doarpezwim_account takes 32,640 and what it calls 112 more; the panel's and the
+ * survey's take less than 100. Measured, not proved: read off the machine code of libdoarpezwim.a, and seen on a stack
+ * that was painted. Where memset and memcpy of the C library are bound at their first call, the loader takes some more
+ * for itself.
  */
 #define DOARPEZWIM_STACK_BYTES 33136
 
@@ -64,6 +71,10 @@ enum doarpezwim_refusal {
     /* Of an outfall a survey's day. */
     DOARPEZWIM_SURVEY_HOUR = 17,
     DOARPEZWIM_NO_METHOD = 18,
+    /* 19 to 21 are of doarpezwim_import, and name a line of its text. */
+    DOARPEZWIM_TEXT_LINE = 19,
+    DOARPEZWIM_TEXT_RANGE = 20,
+    DOARPEZWIM_FEW_RECORD_BYTES = 21,
     /* Of doarpezwim_panel_hour, a wrong state: the kind of hour does not exist. The number is a mask's. */
     DOARPEZWIM_UNKNOWN_KIND = 15
 };
@@ -90,6 +101,9 @@ static inline const char *doarpezwim_refusal_text(uint32_t number)
     case 16: return "a field of a fuel batch is out of range, or takes the line's fuel over 10000000000 kg";
     case 17: return "a survey's hour or day is past the period";
     case 18: return "no method is left: a day of the outfall is missing, and there is no survey";
+    case 19: return "a line is malformed or not the hour that is due, or the last day is not finished";
+    case 20: return "a concentration is over 10000, a flow is over 5000000, or a day is past 91";
+    case 21: return "fewer than 205 bytes a day were lent for records";
     default: return "an unknown refusal";
     }
 }
@@ -169,6 +183,36 @@ uint32_t doarpezwim_panel_hour(double *total, uint32_t *hours, uint32_t *missing
  */
 uint32_t doarpezwim_governing_survey(const uint8_t *enforcement, size_t enforcement_len, const uint8_t *plant,
                                      size_t plant_len, uint16_t hour, uint8_t part[DOARPEZWIM_SURVEY_BYTES]);
+
+/* The cells of an import's answer. */
+enum doarpezwim_import_cell {
+    DOARPEZWIM_IMPORT_NUMBER = 0,
+    /* Counted from 1; 0 if the text is accepted. */
+    DOARPEZWIM_IMPORT_LINE = 1,
+    /* Bytes of records that were written, 205 a day; 0 if the text is refused. */
+    DOARPEZWIM_IMPORT_COUNT = 2
+};
+
+/*
+ * Writes the day records of a historian's text export, which stand in a record file between a head and its end.
+ *
+ * text: lines of day, hour, state, concentration and flow with a comma between two, such as 17,5,R,41.25,1003417.
+ * States are R measured, M missing and S stopped; both readings are empty unless R. A number is one digit or more, and
+ * leading zeros are allowed. A concentration, in mg/m3 and at most 10,000, may have a point with one or two digits
+ * behind it; a flow, in m3/h and at most 5,000,000, has none. Each line ends with LF, and with nothing before it. All
+ * 24 hours of each day stand in order, from day 0, at most 92 days. Each reading becomes the nearest binary32. An empty
+ * text is accepted and writes nothing.
+ *
+ * records: accepted records stand at its start, 205 bytes each; the bytes past them stay as they were. After a refusal
+ * all records_len bytes are zero. 205 x 92 bytes are always enough.
+ *
+ * answer: number, line, and the bytes that were written. The number is returned as well. It is 0 if the text is
+ * accepted, and so is the line. Else the count is 0, and the first line at fault is named, in this order: 19 it is
+ * malformed, not of the hour that is due, does not end, or is the last one of a day that is not finished; 20 a reading
+ * is over its limit, or the day is 92; 21 there is no room for the record of the day that it begins.
+ */
+uint32_t doarpezwim_import(const uint8_t *text, size_t text_len, uint8_t *records, size_t records_len,
+                           uint64_t answer[DOARPEZWIM_IMPORT_CELLS]);
 
 #ifdef __cplusplus
 }

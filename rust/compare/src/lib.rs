@@ -8,6 +8,7 @@
 mod account;
 mod feed;
 mod header;
+mod import;
 mod panel;
 mod program;
 mod survey;
@@ -15,6 +16,7 @@ mod survey;
 pub use account::{AccountCall, compare_accounts};
 pub use feed::{Call, feed};
 pub use header::HEADER;
+pub use import::{Import, ImportCall, compare_imports};
 pub use panel::{Stepped, compare_steps, stepped};
 pub use program::Program;
 pub use survey::{Found, Part, compare_lookups, part};

@@ -3,8 +3,10 @@
 use std::path::Path;
 use std::time::Duration;
 
-use compare::{AccountCall, HEADER, Program, compare_accounts, compare_lookups, compare_steps};
-use inputs::{Lookup, Rng, Step};
+use compare::{
+    AccountCall, HEADER, ImportCall, Program, compare_accounts, compare_imports, compare_lookups, compare_steps,
+};
+use inputs::{Lookup, Rng, Step, sweep};
 
 const SEED: u64 = 0x0d0a_29e2_0006;
 const CALLS: usize = 20;
@@ -39,11 +41,18 @@ fn lookups(program: &Program) -> Result<u64, String> {
     compare_lookups(program, lookups).map(|found| found.enforcement + found.plant + found.none)
 }
 
+/// Calls on a day of readings, lent five bytes more than it needs.
+fn imports(program: &Program) -> Result<u64, String> {
+    let text = sweep::text(&sweep::readings(7).take(24).collect::<Vec<_>>());
+    let calls = (0..CALLS as u32).map(|seed| ImportCall::of_text(text.clone(), 210, seed));
+    compare_imports(program, calls).map(|census| census.inputs)
+}
+
 #[test]
 fn passes_answers_of_the_reference() {
     let program = stand_in(&[]);
-    let all = Ok(CALLS as u64);
-    assert_eq!((accounts(&program), steps(&program), lookups(&program)), (all.clone(), all.clone(), all));
+    let of_each = [accounts(&program), steps(&program), lookups(&program), imports(&program)];
+    assert_eq!(of_each, [const { Ok(CALLS as u64) }; 4]);
 }
 
 /// The first cell and the last one of each part of an answer, and the cells about the quarter's end.
@@ -69,6 +78,15 @@ fn fails_on_a_changed_panel_or_part() {
     }
     for byte in 0..18 {
         let why = lookups(&flip(CALLS - 1 - byte, byte)).expect_err("a changed byte is found");
+        assert!(why.contains("was to be"), "byte {byte}: {why}");
+    }
+}
+
+/// Each byte of the answer, and the first and the last of the records and of what is lent over.
+#[test]
+fn fails_on_a_changed_import() {
+    for byte in (0..24).chain([24, 24 + 13, 24 + 204, 24 + 205, 24 + 209]) {
+        let why = imports(&flip(byte % CALLS, byte)).expect_err("a changed byte is found");
         assert!(why.contains("was to be"), "byte {byte}: {why}");
     }
 }
@@ -99,7 +117,7 @@ fn says_how_to_get_the_program() {
 fn has_a_header_of_this_version() {
     assert!(HEADER.contains(&format!("#define DOARPEZWIM_VERSION \"{}\"", env!("CARGO_PKG_VERSION"))));
     let (_, refusals) = HEADER.split_once("enum doarpezwim_refusal {").expect("the header has the numbers");
-    let given = (0..=18).filter(|&number| number != 3);
+    let given = (0..=21).filter(|&number| number != 3);
     let mut places = given.map(|number| refusals.find(&format!(" = {number},")).expect("each number is named"));
     assert!(places.by_ref().is_sorted());
 }

@@ -1,7 +1,7 @@
-//! Calls the three functions on heap blocks of exactly the lent size, so that valgrind sees every step outside them.
+//! Calls the four functions on heap blocks of exactly the lent size, so that valgrind sees every step outside them.
 
 use doarpezwim::ffi;
-use inputs::{Case, Lookup, Rng, Size, Step};
+use inputs::{Case, Export, Lookup, Rng, Size, Step};
 
 const SEED: u64 = 0x0d0a_29e2_0004;
 
@@ -52,6 +52,14 @@ fn survey(lookup: Lookup) -> u32 {
     }
 }
 
+fn import(export: Export, rng: &mut Rng) -> u32 {
+    let text = export.text.into_boxed_slice();
+    let mut records = rng.garbage_u8(export.room).into_boxed_slice();
+    let mut answer = Box::new([0; doarpezwim::IMPORT_CELLS]);
+    // SAFETY: every pointer comes with the length of its own block.
+    unsafe { ffi::doarpezwim_import(text.as_ptr(), text.len(), records.as_mut_ptr(), records.len(), &mut *answer) }
+}
+
 fn main() {
     let mut rng = Rng::new(SEED);
     let mut numbers = [0; 19];
@@ -76,4 +84,10 @@ fn main() {
     println!("panel calls by number: {numbers:?}");
     let found = (0..2_000).filter(|_| survey(Lookup::generate(&mut rng)) == 14).count();
     println!("survey calls: 2000, of which {found} found a block");
+    let mut numbers = [0; 22];
+    for _ in 0..2_000 {
+        let export = Export::generate(&mut rng);
+        numbers[import(export, &mut rng) as usize] += 1;
+    }
+    println!("import calls by number: {numbers:?}");
 }

@@ -1,37 +1,80 @@
-//! The proved account call against the reference: same machine, same input, both as release builds.
+//! The proved account and import calls against the reference: same machine, same input, both as release builds.
 //!
 //! `speed` prints a table of times. `speed callgrind CASE WHO CALLS` makes that many calls and nothing else, for
-//! counting instructions. Rows and work slices are lent again from call to call and are not cleared in between.
+//! counting instructions. What is lent is lent again from call to call and not cleared in between.
 
 use std::hint::black_box;
 use std::time::{Duration, Instant};
 
-use inputs::Rng;
 use inputs::wire::{self, Day, Head, Line, WaterDay, WaterHead, WaterLine};
+use inputs::{Export, Rng};
 
 const SEED: u64 = 0x0d0a_29e2_0005;
 const SAMPLES: usize = 301;
-const CASES: usize = 7;
+const CASES: usize = 8;
 
-type Account = fn(&[u8], &mut [u64], &mut [u32], &mut [u32]) -> u64;
+/// What is lent to the calls.
+struct Lent {
+    rows: Vec<u64>,
+    concentration: Vec<u32>,
+    flow: Vec<u32>,
+    records: Vec<u8>,
+}
+
+impl Lent {
+    fn new() -> Self {
+        let rows = vec![0; doarpezwim::ROW_CELLS * doarpezwim::MOST_LINES];
+        let records = vec![0; doarpezwim::DAY_BYTES * doarpezwim::MOST_DAYS];
+        Lent { rows, concentration: vec![0; doarpezwim::WORK_CELLS], flow: vec![0; doarpezwim::WORK_CELLS], records }
+    }
+
+    fn calls(&mut self, call: Call, file: &[u8], count: u32) {
+        for _ in 0..count {
+            black_box(call(black_box(file), self));
+        }
+    }
+}
+
+type Call = fn(&[u8], &mut Lent) -> u64;
 
 /// A benchmark of refusals would tell nothing, so that each side has to accept.
-fn proved(file: &[u8], rows: &mut [u64], concentration: &mut [u32], flow: &mut [u32]) -> u64 {
-    doarpezwim::account_into(file, rows, concentration, flow).expect("a sound file").cells()[0][3]
+fn proved_account(file: &[u8], lent: &mut Lent) -> u64 {
+    let stated = doarpezwim::account_into(file, &mut lent.rows, &mut lent.concentration, &mut lent.flow);
+    stated.expect("a sound file").cells()[0][3]
 }
 
-fn plain(file: &[u8], rows: &mut [u64], concentration: &mut [u32], flow: &mut [u32]) -> u64 {
-    assert_eq!(reference::account(file, rows, concentration, flow).number, 0);
-    rows[3]
+fn plain_account(file: &[u8], lent: &mut Lent) -> u64 {
+    assert_eq!(reference::account(file, &mut lent.rows, &mut lent.concentration, &mut lent.flow).number, 0);
+    lent.rows[3]
 }
 
-const BOTH: [(&str, Account); 2] = [("proved", proved), ("reference", plain)];
+fn proved_import(text: &[u8], lent: &mut Lent) -> u64 {
+    doarpezwim::import_days(text, &mut lent.records).expect("a sound text") as u64
+}
+
+fn plain_import(text: &[u8], lent: &mut Lent) -> u64 {
+    let imported = reference::import_days(text, &mut lent.records);
+    assert_eq!(imported.number, 0);
+    imported.count
+}
+
+/// Who answers, and by which call.
+const WHO: [&str; 2] = ["proved", "reference"];
+const ACCOUNT: [Call; 2] = [proved_account, plain_account];
+const IMPORT: [Call; 2] = [proved_import, plain_import];
 
 /// An input by name.
 struct Case {
     name: &'static str,
     text: &'static str,
     file: Vec<u8>,
+    both: [Call; 2],
+}
+
+impl Case {
+    fn account(name: &'static str, text: &'static str, file: Vec<u8>) -> Self {
+        Case { name, text, file, both: ACCOUNT }
+    }
 }
 
 /// Line `number` of a file: `days` days, measured but for the hours that are `dark`.
@@ -71,46 +114,23 @@ fn cases() -> [Case; CASES] {
     let mut rng = Rng::new(SEED);
     let rng = &mut rng;
     [
-        Case { name: "line", text: "a line of 92 days, all measured", file: stacks(1, 92, |_| false, rng) },
-        Case { name: "lines", text: "48 such lines", file: stacks(48, 92, |_| false, rng) },
-        Case {
-            name: "dark",
-            text: "92 days, 500 hours dark in one gap",
-            file: stacks(1, 92, |hour| (900..1_400).contains(&hour), rng),
-        },
-        Case { name: "days", text: "48 lines of one day", file: stacks(48, 1, |_| false, rng) },
-        Case { name: "water", text: "an outfall, 92 days, all measured", file: wire::file(&[outfall(rng)]) },
-        Case {
-            name: "gap",
-            text: "92 days, 550 hours dark in one gap",
-            file: stacks(1, 92, |hour| (900..1_450).contains(&hour), rng),
-        },
-        Case {
-            name: "gaps",
-            text: "92 days, 25 dark after each 75",
-            file: stacks(1, 92, |hour| hour % 100 >= 75, rng),
-        },
+        Case::account("line", "a line of 92 days, all measured", stacks(1, 92, |_| false, rng)),
+        Case::account("lines", "48 such lines", stacks(48, 92, |_| false, rng)),
+        Case::account(
+            "dark",
+            "92 days, 500 hours dark in one gap",
+            stacks(1, 92, |hour| (900..1_400).contains(&hour), rng),
+        ),
+        Case::account("days", "48 lines of one day", stacks(48, 1, |_| false, rng)),
+        Case::account("water", "an outfall, 92 days, all measured", wire::file(&[outfall(rng)])),
+        Case::account(
+            "gap",
+            "92 days, 550 hours dark in one gap",
+            stacks(1, 92, |hour| (900..1_450).contains(&hour), rng),
+        ),
+        Case::account("gaps", "92 days, 25 dark after each 75", stacks(1, 92, |hour| hour % 100 >= 75, rng)),
+        Case { name: "text", text: "a text of 92 days, to records", file: Export::quarter(rng), both: IMPORT },
     ]
-}
-
-/// What is lent to the calls.
-struct Lent {
-    rows: Vec<u64>,
-    concentration: Vec<u32>,
-    flow: Vec<u32>,
-}
-
-impl Lent {
-    fn new() -> Self {
-        let rows = vec![0; doarpezwim::ROW_CELLS * doarpezwim::MOST_LINES];
-        Lent { rows, concentration: vec![0; doarpezwim::WORK_CELLS], flow: vec![0; doarpezwim::WORK_CELLS] }
-    }
-
-    fn calls(&mut self, account: Account, file: &[u8], count: u32) {
-        for _ in 0..count {
-            black_box(account(black_box(file), &mut self.rows, &mut self.concentration, &mut self.flow));
-        }
-    }
 }
 
 /// Median and least time of one call, in microseconds.
@@ -134,9 +154,9 @@ fn measure(cases: &[Case; CASES]) -> [[Times; 2]; CASES] {
     for _ in 0..SAMPLES {
         for (case, samples) in cases.iter().zip(&mut samples) {
             let calls = (200_000 / case.file.len() as u32).clamp(1, 100);
-            for ((_, account), samples) in BOTH.iter().zip(samples) {
+            for (call, samples) in case.both.iter().zip(samples) {
                 let start = Instant::now();
-                lent.calls(*account, &case.file, calls);
+                lent.calls(*call, &case.file, calls);
                 samples.push(start.elapsed() / calls);
             }
         }
@@ -149,7 +169,7 @@ fn table() {
     let times = measure(&cases);
     println!("Time of a call in microseconds, {SAMPLES} samples; lent slices are not cleared between calls.\n");
     println!("{:36} {:>8} {:>30} {:>30}", "", "", "median", "least");
-    let [proved, plain, ratio] = ["proved", "reference", "ratio"];
+    let ([proved, plain], ratio) = (WHO, "ratio");
     print!("{:36} {:>8}", "input", "bytes");
     println!(" {proved:>10} {plain:>10} {ratio:>8} {proved:>10} {plain:>10} {ratio:>8}");
     for (case, [proved, plain]) in cases.iter().zip(&times) {
@@ -160,7 +180,7 @@ fn table() {
         println!();
     }
     let [one, all, ..] = &times;
-    for (who, (name, _)) in BOTH.iter().enumerate() {
+    for (who, name) in WHO.iter().enumerate() {
         let (median, least) = (all[who].median / one[who].median, all[who].least / one[who].least);
         println!("48 lines over 48 x one line, {name}: median {:.2}, least {:.2}", median / 48.0, least / 48.0);
     }
@@ -169,8 +189,8 @@ fn table() {
 /// Calls of one side on one case and nothing else.
 fn calls_only(case: &str, who: &str, count: &str) -> Option<()> {
     let case = cases().into_iter().find(|known| known.name == case)?;
-    let (_, account) = BOTH.into_iter().find(|(known, _)| *known == who)?;
-    Lent::new().calls(account, &case.file, count.parse().ok()?);
+    let call = case.both[WHO.iter().position(|known| *known == who)?];
+    Lent::new().calls(call, &case.file, count.parse().ok()?);
     Some(())
 }
 
@@ -186,7 +206,7 @@ fn main() {
         _ => None,
     };
     if done.is_none() {
-        eprintln!("usage: speed | speed callgrind line|lines|dark|days|water|gap|gaps proved|reference CALLS");
+        eprintln!("usage: speed | speed callgrind line|lines|dark|days|water|gap|gaps|text proved|reference CALLS");
         std::process::exit(2);
     }
 }

@@ -3,7 +3,7 @@
 //! `include/doarpezwim.h` says what each call takes and answers. No pointer is null, each is aligned for its type, a
 //! length counts elements, and what is written to overlaps no other argument.
 
-use crate::ANSWER_CELLS;
+use crate::{ANSWER_CELLS, IMPORT_CELLS};
 
 unsafe extern "C" {
     /// The call behind [`account_into`](crate::account_into); returns the refusal number, or 0.
@@ -48,5 +48,17 @@ unsafe extern "C" {
         plant_len: usize,
         hour: u16,
         part: *mut [u8; 14],
+    ) -> u32;
+
+    /// The call behind [`import_days`](crate::import_days); returns the refusal number, or 0.
+    ///
+    /// # Safety
+    /// Each slice's pointer is followed by its length, and the module's rules hold.
+    pub fn doarpezwim_import(
+        text: *const u8,
+        text_len: usize,
+        records: *mut u8,
+        records_len: usize,
+        answer: *mut [u64; IMPORT_CELLS],
     ) -> u32;
 }

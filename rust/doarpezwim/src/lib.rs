@@ -12,22 +12,25 @@
 //! ```
 //!
 //! [`account_into`] is the same call over slices that the caller lends, [`Panel`] keeps a running total of a stack hour
-//! by hour, and [`governing_survey`] finds the survey that counts at an hour.
+//! by hour, and [`governing_survey`] finds the survey that counts at an hour. [`import_days`] writes the day records of
+//! a historian's text export.
 //!
 //! The calls are proved in Rattle and linked from a static archive. They answer what document 01 with requests A1 to A3
-//! says for every input, read and write nothing but what they are lent, allocate nothing and keep no state. This crate
-//! adds types, and the borrow rules that the C interface cannot state; it is not proved itself. A call takes about
-//! 32 KB of stack.
+//! and A5 says for every input, read and write nothing but what they are lent, allocate nothing and keep no state. This
+//! crate adds types, and the borrow rules that the C interface cannot state; it is not proved itself. A call takes
+//! about 32 KB of stack.
 #![warn(missing_docs)]
 
 mod account;
 pub mod ffi;
+mod import;
 mod panel;
 mod refusal;
 mod row;
 mod survey;
 
 pub use account::{Account, Stated, Totals, account, account_into};
+pub use import::import_days;
 pub use panel::{Hour, Panel};
 pub use refusal::Refusal;
 pub use row::{Method, Pollutant, Row, Source};
@@ -41,3 +44,9 @@ pub const ANSWER_CELLS: usize = 8;
 pub const ROW_CELLS: usize = 7;
 /// Lines that a file may hold; a line gives a row.
 pub const MOST_LINES: usize = 48;
+/// Bytes of a day record, its length with them.
+pub const DAY_BYTES: usize = 205;
+/// Days that a text export may hold.
+pub const MOST_DAYS: usize = 92;
+/// Cells of an import's answer: number, line, and the bytes that were written.
+pub const IMPORT_CELLS: usize = 3;

@@ -7,7 +7,8 @@ use std::fmt;
 ///
 /// A place counts the file's bytes from 0. For a field or a reading (4 and 14 to 17) it is where the first wrong one
 /// starts; for 1, 2, 5, 6, 7 and 18 where the record at fault starts, or the file's length if the file ends between two
-/// records with a line still open. As text a refusal says what is wrong and what to do:
+/// records with a line still open. 19 to 21 are of a text export and have a line, counted from 1, and no place. As text
+/// a refusal says what is wrong and what to do:
 ///
 /// ```
 /// let refusal = doarpezwim::account(b"no record").unwrap_err();
@@ -88,6 +89,22 @@ pub enum Refusal {
         /// Where the line's end record starts.
         place: usize,
     },
+    /// 19: a line of the text is malformed, is not of the hour that is due, or does not end; or it is the last one of a
+    /// day that is not finished.
+    TextLine {
+        /// The line, from 1.
+        line: usize,
+    },
+    /// 20: a reading in the text is over its limit, or a day is past 91.
+    TextRange {
+        /// The line, from 1.
+        line: usize,
+    },
+    /// 21: fewer than [`DAY_BYTES`](crate::DAY_BYTES) bytes a day were lent for records.
+    FewRecordBytes {
+        /// The first line of the day without room, from 1.
+        line: usize,
+    },
 }
 
 impl Refusal {
@@ -111,6 +128,9 @@ impl Refusal {
             Refusal::FuelField { .. } => 16,
             Refusal::SurveyHour { .. } => 17,
             Refusal::NoMethod { .. } => 18,
+            Refusal::TextLine { .. } => 19,
+            Refusal::TextRange { .. } => 20,
+            Refusal::FewRecordBytes { .. } => 21,
         }
     }
 
@@ -133,7 +153,19 @@ impl Refusal {
             | Refusal::FewWorkCells
             | Refusal::PanelOver
             | Refusal::PanelFull
-            | Refusal::PanelUnlawful => None,
+            | Refusal::PanelUnlawful
+            | Refusal::TextLine { .. }
+            | Refusal::TextRange { .. }
+            | Refusal::FewRecordBytes { .. } => None,
+        }
+    }
+
+    /// In which line of the text it lies, counted from 1, if it lies in a text.
+    #[must_use]
+    pub fn line(&self) -> Option<usize> {
+        match *self {
+            Refusal::TextLine { line } | Refusal::TextRange { line } | Refusal::FewRecordBytes { line } => Some(line),
+            _ => None,
         }
     }
 
@@ -168,6 +200,16 @@ impl Refusal {
         }
     }
 
+    /// What the import call answered.
+    pub(crate) fn of_import(number: u32, line: usize) -> Self {
+        match number {
+            19 => Refusal::TextLine { line },
+            20 => Refusal::TextRange { line },
+            21 => Refusal::FewRecordBytes { line },
+            _ => panic!("the archive refuses a text with {number}: it is newer than this crate"),
+        }
+    }
+
     fn fault(&self) -> &'static str {
         match self {
             Refusal::CutOrUnknown { .. } => "the record is cut short, of an unknown kind, or not of its kind's length",
@@ -197,6 +239,14 @@ impl Refusal {
             }
             Refusal::SurveyHour { .. } => "a survey's hour or day is past the period",
             Refusal::NoMethod { .. } => "no method is left: a day of the outfall is missing, and there is no survey",
+            Refusal::TextLine { .. } => {
+                "the line is malformed, is not the hour that is due, or does not end, or it is the last one of a day \
+                 that is not finished"
+            }
+            Refusal::TextRange { .. } => {
+                "a concentration is over 10,000, a flow is over 5,000,000, or a day is past 91"
+            }
+            Refusal::FewRecordBytes { .. } => "fewer than 205 bytes a day were lent for records",
         }
     }
 
@@ -226,6 +276,14 @@ impl Refusal {
             Refusal::NoMethod { .. } => {
                 "add what was left out: the missing days' readings, or a survey, for which any running day will do"
             }
+            Refusal::TextLine { .. } => {
+                "write each hour from day 0 on as day,hour,R,concentration,flow or day,hour,M,, or day,hour,S,, with a \
+                 single line feed behind it and no blank in it, and all 24 hours of each day"
+            }
+            Refusal::TextRange { .. } => {
+                "correct the reading at its source, or write the hour as missing; export at most 92 days at a time"
+            }
+            Refusal::FewRecordBytes { .. } => "lend 205 bytes for each day; 18,860 are always enough",
         }
     }
 }
@@ -235,6 +293,9 @@ impl fmt::Display for Refusal {
         write!(text, "refused {}", self.number())?;
         if let Some(place) = self.place() {
             write!(text, " at byte {place}")?;
+        }
+        if let Some(line) = self.line() {
+            write!(text, " at line {line}")?;
         }
         write!(text, ": {}; {}", self.fault(), self.remedy())
     }
@@ -256,6 +317,10 @@ mod tests {
         for number in [4, 10, 11, 12] {
             let refusal = Refusal::of_panel(number);
             assert_eq!((refusal.number(), refusal.place()), (number, None));
+        }
+        for number in [19, 20, 21] {
+            let refusal = Refusal::of_import(number, 25);
+            assert_eq!((refusal.number(), refusal.place(), refusal.line()), (number, None, Some(25)));
         }
     }
 
@@ -284,6 +349,11 @@ mod tests {
         assert_eq!(
             Refusal::PanelFull.to_string(),
             "refused 11: the panel holds 2,208 hours already; start a new panel"
+        );
+        assert_eq!(
+            Refusal::FewRecordBytes { line: 25 }.to_string(),
+            "refused 21 at line 25: fewer than 205 bytes a day were lent for records; lend 205 bytes for each day; \
+             18,860 are always enough"
         );
     }
 }

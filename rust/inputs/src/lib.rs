@@ -1,17 +1,23 @@
 //! Inputs for the comparison tests, the valgrind run and the benchmark, all from fixed seeds.
 //!
-//! It knows the record file's shape and the ranges of its fields, and nothing of how an account is computed.
+//! It knows the shape of a record file and of a text export and the ranges of their fields, and nothing of how an
+//! account is computed.
 #![forbid(unsafe_code)]
 
 mod case;
 mod census;
 mod damage;
 mod damage_bytes;
+mod damage_export;
 mod damage_fields;
 mod damage_lines;
 mod damage_records;
 mod damage_water;
 mod damage_water_fields;
+mod export;
+mod export_census;
+mod export_lines;
+pub mod export_vectors;
 mod field;
 pub mod figures;
 mod hours;
@@ -26,12 +32,16 @@ mod sound;
 mod sound_surveys;
 mod sound_water;
 mod survey;
+pub mod sweep;
 pub mod vectors;
 mod water;
 pub mod wire;
 
 pub use case::Case;
 pub use census::{Census, Fill};
+pub use damage_export::Damage;
+pub use export::{Damaged, Export};
+pub use export_census::{ExportCensus, Order, Room};
 pub use outcome::Outcome;
 pub use panel::Step;
 pub use rng::Rng;

@@ -1,5 +1,5 @@
-//! The quarter account of document 01 with requests A1 to A3 of document 02, written from the documents and not from the
-//! proved code.
+//! The quarter account of document 01 with requests A1 to A3 and A5 of document 02, written from the documents and not
+//! from the proved code.
 //!
 //! It shares no code with the proved library. The comparison tests hold the two against each other, and the benchmark
 //! takes this one as its baseline.
@@ -8,6 +8,7 @@
 mod account;
 mod fill;
 mod grams;
+mod historian;
 mod hours;
 mod line;
 mod panel;
@@ -21,6 +22,7 @@ mod tables;
 mod water;
 
 pub use account::{Answer, account};
+pub use historian::{Imported, import_days};
 pub use hours::HOURS;
 pub use panel::{Hour, Panel};
 pub use printed::{printed, text};

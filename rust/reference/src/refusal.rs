@@ -1,6 +1,6 @@
 //! The numbers that say no.
 
-/// A reason to refuse; its discriminant is the number of document 01, from 14 on of requests A1 and A3. 3 is not given.
+/// A reason to refuse; its discriminant is the number of document 01, from 14 on of A1, A3 and A5. 3 is not given.
 #[derive(Clone, Copy, Debug, PartialEq, Eq)]
 #[repr(u32)]
 pub enum Refusal {
@@ -22,6 +22,12 @@ pub enum Refusal {
     Fuel = 16,
     PastPeriod = 17,
     NoMethod = 18,
+    /// Malformed or misplaced, or the last one of a day that is not finished.
+    TextLine = 19,
+    /// A number out of range, or a day past 91.
+    TextRange = 20,
+    /// For a day's record.
+    FewBytes = 21,
 }
 
 impl Refusal {
@@ -39,7 +45,8 @@ impl Refusal {
     }
 }
 
-/// A refusal together with the byte offset that it names: in the record while that is judged, then in the file.
+/// A refusal together with the byte offset that it names: in the record while that is judged, then in the file. Of a
+/// text it is the line.
 #[derive(Clone, Copy, Debug, PartialEq, Eq)]
 pub(crate) struct Fault {
     pub refusal: Refusal,

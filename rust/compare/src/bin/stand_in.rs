@@ -6,7 +6,7 @@
 use std::io::{self, BufReader, BufWriter, Read, Write};
 use std::process::ExitCode;
 
-use compare::{AccountCall, part, stepped};
+use compare::{AccountCall, ImportCall, part, stepped};
 use inputs::{Case, Lookup, Step};
 
 #[derive(Clone, Copy, PartialEq)]
@@ -64,6 +64,12 @@ fn survey([enforcement, plant, hour, ..]: [u32; 5], input: &mut impl Read) -> io
     Ok([&answer.length.to_le_bytes()[..], &answer.bytes].concat())
 }
 
+fn import([length, room, seed, ..]: [u32; 5], input: &mut impl Read) -> io::Result<Vec<u8>> {
+    let import = ImportCall::of_text(bytes(length, input)?, room as usize, seed).expected();
+    let cells = import.answer.iter().flat_map(|cell| cell.to_le_bytes());
+    Ok(cells.chain(import.records).collect())
+}
+
 /// The six numbers of the next header; `None` at the end of the input.
 fn header(input: &mut impl Read) -> io::Result<Option<[u32; 6]>> {
     let mut bytes = [[0; 4]; 6];
@@ -83,6 +89,7 @@ fn answer_all(fault: Fault) -> io::Result<()> {
             1 => account(of_call, &mut input)?,
             2 => panel(of_call, &mut input)?,
             3 => survey(of_call, &mut input)?,
+            4 => import(of_call, &mut input)?,
             _ => return Err(io::Error::other("a frame of no call")),
         };
         match fault {
