@@ -46,6 +46,17 @@ field() { # CASE BASE OFFSET BYTES N PLACE WORDS
     expect "$1, by -" 1 "$room/refused" "$7" launch account - <"$room/changed"
     expect "$1, through a pipe" 1 "$room/refused" "$7" in_two "$room/changed" launch account
 }
+# A text that is refused: nothing is printed, and the first line that is said, which stands in for it here, is the program's own.
+not_taken() { # CASE N LINE WORDS FILE
+    printf 'refused %s %s\n' "$2" "$3" >"$room/refused" && expect "$1" 1 "$room/refused" "$4" said_first launch import "$5"
+}
+# A line at fault, LINE of the sample made TEXT (with \0ooo for a byte): by its name, as standard input, and through a pipe.
+line() { # CASE LINE TEXT N WORDS
+    with_line "$2" "$3" >"$room/changed"
+    not_taken "$1" "$4" "$2" "$5" "$room/changed"
+    expect "$1, by -" 1 /dev/null "$5" launch import - <"$room/changed"
+    expect "$1, through a pipe" 1 /dev/null "$5" in_two "$room/changed" launch import
+}
 no_answer() { name=$1 words=$2 && shift 2 && expect "$name" 2 /dev/null "$words" "$@"; } # CASE WORDS COMMAND...
 
 # ways to run a command
@@ -53,6 +64,7 @@ in_pieces() { { head -c 100 && sleep 1 && cat; } <samples/quarter.rec | "$@"; }
 in_two() { file=$1 && shift && { head -c 9 && cat; } <"$file" | "$@"; }
 endless() { yes | "$@"; }
 by_fifo() { mkfifo "$room/fifo" && { cat "$room/coal" >"$room/fifo" & } && "$@" "$room/fifo"; }
+said_first() { "$@" 2>"$room/said"; got=$? && grep -v ' proving and building ' "$room/said" | head -n 1 && cat "$room/said" >&2 && return $got; }
 from() { (cd "$1" && shift && "$@"); }
 to_full_disk() { "$@" >/dev/full; }
 no_stdin() { "$@" <&-; }
@@ -78,14 +90,24 @@ four_at_once() {
     wait
     cat "$room"/out.[1-4]
 }
-at_terminal() {
-    export launcher room shell
+at_terminal() { # account or import
+    export launcher room shell command="$1"
     # shellcheck disable=SC2016
-    printf '\004' | SHELL=/bin/sh script -qec '${shell:+"$shell"} "$launcher" account >"$room/tty.out" 2>"$room/tty.err"' /dev/null >/dev/null
+    printf '\004' | SHELL=/bin/sh script -qec '${shell:+"$shell"} "$launcher" "$command" >"$room/tty.out" 2>"$room/tty.err"' /dev/null >/dev/null
     got=$?
     cat "$room/tty.out" && cat "$room/tty.err" >&2
     return $got
 }
+to_terminal() {
+    export launcher room shell text
+    # shellcheck disable=SC2016
+    SHELL=/bin/sh script -qec '${shell:+"$shell"} "$launcher" import "$text" 2>"$room/tty.err"' /dev/null </dev/null
+    got=$?
+    cat "$room/tty.err" >&2
+    return $got
+}
+# A head, what the command prints, and an end.
+as_file() { bytes samples/imported.rec 14 0 && "$@" && printf '%b' "$end"; }
 
 # ---- files
 bytes() { head -c "$2" "$1" | tail -c +$(($3 + 1)); } # FILE TO FROM: its bytes from FROM up to TO
@@ -133,6 +155,16 @@ printf '1 2 1 126500 4 1 3\n1 4 1 50000 2 0 0\ntotal 0 126500 0 50000 0\n' >"$ro
 { bytes "$water" 22 0 && bytes "$water" 82 36; } >"$room/wet turn" && change "$room/plant" 229 '\001' >"$room/no rise"
 { bytes "$water" 50 0 && bytes "$water" 78 64 && bytes "$water" 82 50; } >"$room/plant first" && bytes "$water" 30 0 >"$room/wet cut"
 change "$water" 8 '\0313' >"$room/wet length" && change "$water" 54 '\002' >"$room/wet stopped"
+# the sample of the import, and LINE of it made TEXT
+text=$home/samples/days.csv days=$home/samples/days.rec
+with_line() { head -n $(($1 - 1)) "$text" && printf '%b\n' "$2" && tail -n +$(($1 + 1)) "$text"; } # LINE TEXT
+cp "$text" "$room/a name.csv" && cp "$text" "$room/-name.csv"
+{ printf '0,00,R,41.57,' && zeros $((65536 - $(wc -c <"$text"))) | tr '\000' 0 && head -n 1 "$text" | cut -d , -f 5 && tail -n +2 "$text"; } >"$room/65536.csv"
+{ cat "$room/65536.csv" && echo; } >"$room/65537.csv" && head -n 47 "$text" >"$room/unfinished.csv" && head -c -1 "$text" >"$room/no end.csv"
+{ echo day,hour,state,mg/m3,m3/h && cat "$text"; } >"$room/title.csv" && sed "s/\$/$(printf '\r')/" "$text" >"$room/crlf.csv"
+d=0 && while [ $d -lt 93 ]; do h=0 && while [ $h -lt 24 ]; do echo "$d,$h,S,," && h=$((h + 1)); done && d=$((d + 1)); done >"$room/93.csv"
+head -n 2208 "$room/93.csv" >"$room/92.csv" && head -n 2209 "$room/93.csv" >"$room/day 92.csv"
+d=0 && while [ $d -lt 92 ]; do printf '%b' "\0313\000\002\000\0$(printf %o $d)" && zeros 200 && d=$((d + 1)); done >"$room/92.rec"
 mkdir "$room/tools" && for tool in cat dirname readlink; do ln -s "$(command -v $tool)" "$room/tools"; done
 mkdir "$room/kit" && cat >"$room/kit/rt" <<END
 #!/bin/sh
@@ -143,7 +175,7 @@ chmod +x "$room/kit/rt"
 for tool in awk od head; do # each fails where the words need it, and only there: rt needs them too
     mkdir "$room/no $tool" && cat >"$room/no $tool/$tool" <<END
 #!/bin/sh
-case "\$*" in *words.awk* | *65537*) exit 127 ;; esac
+case "\$*" in *words.awk* | *line.awk* | *65537*) exit 127 ;; esac
 exec $(command -v $tool) "\$@"
 END
     chmod +x "$room/no $tool/$tool"
@@ -170,7 +202,7 @@ expect "a file, standard input closed" 0 "$stated" '' no_stdin launch account "$
 expect "standard error closed" 0 "$stated" '' no_stderr launch account "$example"
 cat "$stated" "$stated" "$stated" "$stated" >"$room/four.out"
 expect "four at once" 0 "$room/four.out" '' four_at_once launch account "$example"
-if command -v script >/dev/null; then expect "a terminal" 0 "$room/zero.out" "waiting for a record file" at_terminal
+if command -v script >/dev/null; then expect "a terminal" 0 "$room/zero.out" "waiting for a record file" at_terminal account
 else skip "a terminal" "there is no program script here"; fi
 
 # ---- refusals of a record or a file
@@ -276,6 +308,79 @@ no_answer "no toolchain" "the Rattle toolchain is not installed" no_rt launch ac
 if [ "$(uname -m)" != x86_64 ]; then no_answer "a toolchain without its emulator" "no emulator" other_kit launch account "$example"
 else expect "a toolchain without its loader" 0 "$stated" '' other_kit launch account "$example"; fi
 
+# ---- records of a text
+expect "a text" 0 "$days" '' launch import "$text"
+expect "a text, as standard input" 0 "$days" '' launch import <"$text"
+expect "a text, - for standard input" 0 "$days" '' launch import - <"$text"
+expect "a text, through a pipe" 0 "$days" '' in_two "$text" launch import
+expect "a text, through symbolic links, from another folder" 0 "$days" '' from "$room" run "$room/link" import "a name.csv"
+expect "a text, a name that begins with -" 0 "$days" '' from "$room" launch import -- -name.csv
+expect "a text of 65,536 bytes, by leading zeros" 0 "$days" '' launch import "$room/65536.csv"
+expect "a text of 92 days" 0 "$room/92.rec" '' launch import "$room/92.csv"
+expect "an empty text" 0 /dev/null "the text is empty" launch import "$room/empty"
+expect "an empty text, /dev/null" 0 /dev/null "the text is empty" launch import /dev/null
+expect "an empty text, as standard input" 0 /dev/null "the text is empty" launch import </dev/null
+expect "a text, standard input closed" 0 "$days" '' no_stdin launch import "$text"
+expect "a text, standard error closed" 0 "$days" '' no_stderr launch import "$text"
+expect "a text, the emulator's variables" 0 "$days" '' with_variables launch import "$text"
+expect "a text, no folder for temporary files" 0 "$days" '' temporary "$room/none" launch import <"$text"
+expect "a text, nothing stays behind" 0 "$days" '' left_behind launch import <"$text"
+expect "a head, the records and an end" 0 samples/imported.rec '' as_file launch import "$text"
+expect "these, accounted" 0 samples/imported.out '' launch account samples/imported.rec
+expect "the records alone are no file" 1 samples/days.out "outside any line, day record of day 0, at the file's start" launch account "$days"
+
+# ---- refusals of a text
+form="its concentration is neither digits nor digits with a point between them" none="an hour with M or S has neither a concentration nor a flow"
+line "an empty line" 7 '' 19 "line 7, '': it is empty"
+line "a blank" 7 '0, 06,R,44,0712914' 19 "line 7, '0, 06,R,44,0712914': its hour is not digits alone"
+line "no day" 7 ',06,R,44,0712914' 19 "its day is empty"
+line "a lower case letter" 7 '0,06,r,44,0712914' 19 "its letter is none of R, M, S"
+line "a comma for the point" 7 '0,06,R,44,0,0712914' 19 "it has 5 commas, and must have 4"
+line "a point with no digit behind it" 7 '0,06,R,44.,0712914' 19 "$form"
+line "a point with no digit before it" 7 '0,06,R,.5,0712914' 19 "$form"
+line "a sign" 7 '0,06,R,-44,0712914' 19 "$form"
+line "three decimals" 7 '0,06,R,44.000,0712914' 19 "its concentration has 3 decimals, and may have at most 2"
+line "a flow with a point" 7 '0,06,R,44,0712914.0' 19 "its flow is not digits alone"
+line "a measured hour without a flow" 7 '0,06,R,44,' 19 "its flow is empty"
+line "a missing hour with a reading" 10 '0,09,M,44,' 19 "$none"
+line "a stopped hour with a reading" 31 '1,06,S,,0' 19 "$none"
+line "an hour twice" 8 '0,06,R,44,0712914' 19 "it is not of day 0, hour 7, which is due"
+line "a day left out" 25 '2,00,R,44,0712914' 19 "it is not of day 1, hour 0, which is due"
+line "bytes that are not for a terminal" 7 '\0033[2J\000\0377\0134n' 19 "line 7, '\x1b[2J\x00\xff\x5cn': it has 0 commas"
+line "a long line" 7 "0,06,R,$(zeros 100 | tr '\000' 0)44.125,1" 19 "00' and 55 bytes more: its concentration has 3 decimals"
+line "a concentration over" 7 '0,06,R,10000.01,0712914' 20 "line 7, '0,06,R,10000.01,0712914': its concentration is over 10,000 mg/m3"
+line "a flow over" 7 '0,06,R,44,5000001' 20 "its flow is over 5,000,000 m3/h"
+line "a number of a hundred digits" 7 "0,06,R,44,1$(zeros 99 | tr '\000' 0)" 20 "its flow is over 5,000,000 m3/h"
+not_taken "a title" 19 1 "line 1, 'day,hour,state,mg/m3,m3/h': its day is not digits alone" "$room/title.csv"
+not_taken "lines that end with CR LF" 19 1 "line 1, '0,00,R,41.57,0639280\x0d': it ends with CR LF, and must end with LF alone" "$room/crlf.csv"
+not_taken "a last day that is not finished" 19 47 "it is the last line, and day 1 lacks hour 23" "$room/unfinished.csv"
+not_taken "a last line without its LF" 19 48 "no LF ends it" "$room/no end.csv"
+not_taken "a 93rd day" 20 2209 "day 92 is past day 91, the last that a text may have" "$room/93.csv"
+not_taken "a 93rd day, of one line" 19 2209 "it is the last line, and day 92 lacks hours 1 to 23" "$room/day 92.csv"
+not_taken "records for a text" 19 1 "must have 4" "$days"
+not_taken "what to do" 19 1 "what to do: export it again" "$room/title.csv"
+not_taken "a text of 65,537 bytes" 13 0 "longer than the 65,536 bytes" "$room/65537.csv"
+expect "a text without end" 1 /dev/null "longer than the 65,536 bytes" endless launch import
+expect "a refused text, standard error closed" 1 /dev/null '' no_stderr launch import "$room/title.csv"
+unquoted="line 1 of the text (the first is 1) is malformed or misplaced"
+expect "a refused text, no folder for temporary files" 1 /dev/null "$unquoted" temporary "$room/none" launch import <"$room/title.csv"
+expect "a refused text, no awk" 1 /dev/null "$unquoted" broken "no awk" launch import "$room/title.csv"
+
+# ---- no records
+no_answer "no such text" "there is no file" launch import "$room/none.csv"
+no_answer "a folder for a text" "is a folder, not a text; nothing is brought in" launch import "$room/folder"
+no_answer "a folder as standard input of the import" "could not be read" launch import <"$room/folder"
+no_answer "records for a full disk" "the records could not be written" to_full_disk launch import "$text"
+no_answer "records for a reader that is gone" "the records could not be written" reader_gone launch import "$text"
+no_answer "a text, standard input closed, no name" "standard input is closed" no_stdin launch import
+no_answer "records for a closed standard output" "standard output is closed" no_stdout launch import "$text"
+no_answer "a text, no toolchain" "the Rattle toolchain is not installed" no_rt launch import "$text"
+if [ "$(uname -m)" != x86_64 ]; then no_answer "a text, a toolchain without its emulator" "no emulator" other_kit launch import "$text"; fi
+if command -v script >/dev/null; then
+    no_answer "records for a terminal" "not for a terminal" to_terminal
+    expect "a text from a terminal" 0 /dev/null "waiting for a text" at_terminal import
+else skip "records for a terminal, a text from one" "there is no program script here"; fi
+
 # ---- usage
 expect "help" 0 "$usage_text" '' launch help
 expect "--help" 0 "$usage_text" '' launch --help
@@ -284,6 +389,8 @@ no_answer "an unknown command" "usage:" launch accounts "$example"
 no_answer "two files" "usage:" launch account "$example" "$example"
 no_answer "an unknown option" "usage:" launch account -x
 no_answer "a name that begins with -, without --" "usage:" from "$room" launch account -name.rec
+no_answer "two texts" "usage:" launch import "$text" "$text"
+no_answer "an unknown option of the import" "usage:" launch import -x
 
 # ---- a copy of the repository, in which things break
 copy="$room/a copy" && mkdir "$copy" && cp -R .ci crates crates.txt doarpezwim target "$copy" || exit 2
@@ -300,6 +407,8 @@ rm "$copy/target/bin/account"
 expect "a program that is gone is built again" 0 "$stated" proving run "$copy/doarpezwim" account "$example"
 echo broken >>"$copy/crates/account/src/main.rt"
 no_answer "sources that are not proved, over a program from older ones" "not proved and built" run "$copy/doarpezwim" account "$example"
+echo broken >>"$copy/crates/historian/src/main.rt"
+no_answer "the same of the import" "not proved and built" run "$copy/doarpezwim" import "$text"
 
 echo "$cases cases, $wrong not as expected"
 [ "$wrong" -eq 0 ]
