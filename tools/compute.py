@@ -1,13 +1,16 @@
 #!/usr/bin/env python3
-"""The rules are run: the checker computes what the definitions print for record files, and compares with the stored answers.
+"""The rules are run: the checker computes what the definitions say of record files and of texts of the historian, and compares with the stored answers.
 
-usage: tools/compute.py [--max BYTES] [--restated FILE].. FILE.rec..
+usage: tools/compute.py [--max BYTES] [--restated FILE].. FILE..      (NAME.rec or NAME.roomN.txt)
 
-Beside each FILE.rec stands a FILE.out with what `account` must print, or a restated.txt has what it prints after a later request.
+Beside each NAME.rec stands a NAME.out with what `account` must print, or a restated.txt has what it prints after a later request. Beside each NAME.roomN.txt,
+a text with N bytes lent for its records, stands a NAME.roomN.out with number and line, and where that is `0 0` a NAME.roomN.days with the records written.
 
-No code of the account takes part. Each file becomes one statement, `printed FILE ≡ ANSWER`, proved by refl in a throwaway crate of a throwaway
-repository under target/compute/, which holds links to the rules and copies of the definition of `printed`. Larger files than BYTES (3000) are passed over.
-The last line says how many agree; the exit status is 0 only where all do.
+No code of the account takes part. Each record file becomes one statement, `printed FILE ≡ ANSWER`. Each text becomes two, of what is answered and of the lent
+bytes afterwards: `answerOf N TEXT ≡ ANSWER` and `bufferAfter nearestBy TEXT LENT ≡ BYTES`. All are proved by refl in throwaway crates of a throwaway repository
+under target/compute/, which holds links to the rules and copies of the other definitions. Larger files than BYTES (3000) are passed over.
+A statement that is refused is named as `disagrees`, one that takes more steps than the checker allows as `no verdict`: a text costs the lines looked at times
+the bytes from there on, and 16,000 bytes that are accepted pass. The last line says whether all agree; the exit status is 0 only where they do.
 """
 import os, re, shutil, subprocess, sys, time
 
@@ -15,7 +18,23 @@ import restated
 
 ROOT = os.path.dirname(os.path.dirname(os.path.abspath(__file__)))
 WORK = os.path.join(ROOT, 'target', 'compute')
-BATCH = 24  # statements to a crate: rt proves several crates at a time
+BATCH = 24  # files to a crate: rt proves several crates at a time
+FILLER = 170  # what each lent byte holds before the import
+HEAD = '''use Prim.Native.Nat.{ℕ, zero, suc, _/_, _%_}
+use mathlib.Core.List.{List, [], _∷_}
+use mathlib.Core.Path.{_≡_, refl}
+use lib.ListN.{replicate}
+use Rattle.printed.specs.Program.{printed}
+use Rattle.printed.specs.Opened.{prints}
+use Rattle.nearest.specs.Computed.{nearestBy}
+use Rattle.import.specs.Import.{answerOf, bufferAfter}
+use Rattle.import.specs.Opened.{texts}
+
+-- n bytes, the lowest first
+unfoldable spread : ℕ → ℕ → List ℕ
+spread zero x = []
+spread (suc n) x = x % 256 ∷ spread n (x / 256)
+'''
 
 
 def reached(name, deps):
@@ -35,32 +54,79 @@ def listed():
     return deps
 
 
+def write(crate, files):
+    """A crate of these files, each a path in it with its text."""
+    for path, text in files.items():
+        path = os.path.join(WORK, 'crates', crate, path)
+        os.makedirs(os.path.dirname(path), exist_ok=True)
+        open(path, 'w', encoding='utf-8').write(text)
+
+
 def definition(crate, parts, deps, lines):
-    """Some files of a crate's definitions alone, without the calls that write what they define."""
-    here = os.path.join(WORK, 'crates', crate)
-    os.makedirs(os.path.join(here, 'src'))
-    os.makedirs(os.path.join(here, 'specs'))
-    open(os.path.join(here, 'src', 'lib.rt'), 'w').write('// The definition alone.\n')
-    open(os.path.join(here, 'specs', 'Lib.antt'), 'w').write(''.join('pub mod %s\n' % part for part in parts))
-    for part in parts:
-        shutil.copy(os.path.join(ROOT, 'crates', crate, 'specs', part + '.antt'), os.path.join(here, 'specs'))
+    """Some files of a crate's definitions alone, with the types that it makes public and without the calls that write what is defined."""
+    source = lambda path: open(os.path.join(ROOT, 'crates', crate, path), encoding='utf-8').read()
+    types = re.findall(r'^pub struct .*?^}\n', source('src/lib.rt'), re.M | re.S)
+    write(crate, {'src/lib.rt': '\n'.join(['// The definition alone.\n'] + types), 'specs/Lib.antt': ''.join('pub mod %s\n' % part for part in parts)})
+    write(crate, {'specs/%s.antt' % part: source('specs/%s.antt' % part) for part in parts})
     lines.append('%s: %s' % (crate, deps))
     return crate
 
 
-def number(b):
-    return '0x%x' % int.from_bytes(b, 'little')
+def definitions(lines):
+    """The crates that have what is computed."""
+    deps = listed()
+    base = reached('rules', deps)
+    for c in base:
+        os.symlink(os.path.join(ROOT, 'crates', c), os.path.join(WORK, 'crates', c))
+        lines.append('%s: %s' % (c, ' '.join(deps[c])))
+    base.append(definition('text', ['Numbers', 'Line', 'Opened'], 'law rules', lines))
+    base.append(definition('printed', ['Program', 'Opened'], 'law rules text', lines))
+    base.append(definition('nearest', ['Nearest', 'Computed', 'Opened'], 'law reading', lines))
+    base.append(definition('import', ['Line', 'Import', 'Opened'], 'law field reading nearest', lines))
+    return base
+
+
+def spread(b):
+    return 'spread %d 0x%x' % (len(b), int.from_bytes(b, 'little'))
+
+
+def of_records(f, later):
+    """What is printed for a record file."""
+    return [('', 'printed (%s)' % spread(open(f, 'rb').read()), spread(restated.answer(f, later)[0]), 'prints')]
+
+
+def of_text(f):
+    """What is answered of a text, and what the lent bytes hold then: the records and what was there behind them, or zeros after a refusal."""
+    lent, text = int(re.search(r'\.room(\d+)\.txt$', f).group(1)), spread(open(f, 'rb').read())
+    number, line = open(f[:-4] + '.out').read().split()
+    days = open(f[:-4] + '.days', 'rb').read() if number == '0' else b''
+    after = days + bytes([FILLER]) * (lent - len(days)) if number == '0' else bytes(lent)
+    answer = 'record { number = %s; line = %s; count = %d }' % (number, line, len(days))
+    return [(', the answer', 'answerOf %d (%s)' % (lent, text), answer, 'texts'),
+            (', the lent bytes', 'bufferAfter nearestBy (%s) (replicate %d %d)' % (text, lent, FILLER), spread(after), 'texts')]
 
 
 def module(files, later):
-    out = ['use Prim.Native.Nat.{ℕ, zero, suc, _/_, _%_}', 'use mathlib.Core.List.{List, [], _∷_}', 'use mathlib.Core.Path.{_≡_, refl}',
-           'use Rattle.printed.specs.Program.{printed}', 'use Rattle.printed.specs.Opened.{prints}', '', '-- n bytes, the lowest first', 'unfoldable spread : ℕ → ℕ → List ℕ', 'spread zero x = []',
-           'spread (suc n) x = x % 256 ∷ spread n (x / 256)', '']
+    out = [HEAD]
     for i, f in enumerate(files):
-        x, y = open(f, 'rb').read(), restated.answer(f, later)[0]
-        out += ['-- ' + os.path.basename(f), 'f%d : printed (spread %d %s) ≡ spread %d %s' % (i, len(x), number(x), len(y), number(y)),
-                'unfolding spread prints', 'f%d = refl' % i, '']
+        for j, (part, left, right, opened) in enumerate(of_text(f) if f.endswith('.txt') else of_records(f, later)):
+            name = 'f%d-%d' % (i, j)
+            out += ['-- ' + os.path.basename(f) + part, '%s : %s ≡ %s' % (name, left, right), 'unfolding spread ' + opened, name + ' = refl', '']
     return '\n'.join(out)
+
+
+def tell(log):
+    """Which statements the checker refuses, and of which it cannot tell."""
+    for line in log.split('\n'):
+        m = re.match(r'.*crates/(computed\d+)/specs/Computed\.antt:(\d+):\d+: error(.*)', line)
+        if m:
+            text = open(os.path.join(WORK, 'crates', m.group(1), 'specs', 'Computed.antt'), encoding='utf-8').read().split('\n')
+            at = int(m.group(2)) - 1
+            while at > 0 and not text[at].startswith('-- '):
+                at -= 1
+            print('no verdict:' if 'step limit' in m.group(3) else 'disagrees:', text[at][3:])
+        elif 'error' in line:
+            print(line[:400])
 
 
 def main(args):
@@ -73,45 +139,25 @@ def main(args):
             texts.append(args.pop(0))
         else:
             files.append(a)
+    given = len(files)
+    files = [f for f in files if os.path.getsize(f) <= most]
     if not files:
         sys.exit(__doc__)
-    files = [f for f in files if os.path.getsize(f) <= most]
     later = restated.read(texts)
-    deps = listed()
-    base = reached('rules', deps)
     shutil.rmtree(os.path.join(WORK, 'crates'), ignore_errors=True)
     os.makedirs(os.path.join(WORK, 'crates'))
     lines, made = [], []
-    for c in base:
-        os.symlink(os.path.join(ROOT, 'crates', c), os.path.join(WORK, 'crates', c))
-        lines.append('%s: %s' % (c, ' '.join(deps[c])))
-    base.append(definition('text', ['Numbers', 'Line', 'Opened'], 'law rules', lines))
-    base.append(definition('printed', ['Program', 'Opened'], 'law rules text', lines))
+    base = definitions(lines)
     for k in range(0, len(files), BATCH):
-        c = 'computed%d' % (k // BATCH)
-        made.append(c)
-        os.makedirs(os.path.join(WORK, 'crates', c, 'src'))
-        os.makedirs(os.path.join(WORK, 'crates', c, 'specs'))
-        write = lambda p, t: open(os.path.join(WORK, 'crates', c, p), 'w', encoding='utf-8').write(t)
-        write('src/lib.rt', '// Computed.\n')
-        write('specs/Lib.antt', 'pub mod Computed\n')
-        write('specs/Computed.antt', module(files[k:k + BATCH], later))
-        lines.append('%s: %s' % (c, ' '.join(base)))
+        made.append('computed%d' % (k // BATCH))
+        write(made[-1], {'src/lib.rt': '// Computed.\n', 'specs/Lib.antt': 'pub mod Computed\n', 'specs/Computed.antt': module(files[k:k + BATCH], later)})
+        lines.append('%s: %s' % (made[-1], ' '.join(base)))
     open(os.path.join(WORK, 'crates.txt'), 'w').write('\n'.join(lines) + '\n')
     start = time.time()
     r = subprocess.run(['rt', 'check'] + made, cwd=WORK, capture_output=True, text=True, env=dict(os.environ, RT_CUT='400'))
-    log = r.stdout + r.stderr
-    for line in log.split('\n'):
-        m = re.match(r'.*crates/(computed\d+)/specs/Computed\.antt:(\d+):\d+: error', line)
-        if m:
-            text = open(os.path.join(WORK, 'crates', m.group(1), 'specs', 'Computed.antt'), encoding='utf-8').read().split('\n')
-            at = int(m.group(2)) - 1
-            while at > 0 and not text[at].startswith('-- '):
-                at -= 1
-            print('disagrees:', text[at][3:])
-        elif 'error' in line:
-            print(line[:400])
-    print('%d files computed in %.0f s, %s' % (len(files), time.time() - start, 'all agree' if r.returncode == 0 else 'NOT all agree'))
+    tell(r.stdout + r.stderr)
+    print('%d files tried in %.0f s and %d larger ones passed over: %s'
+          % (len(files), time.time() - start, given - len(files), 'all agree' if r.returncode == 0 else 'NOT all agree'))
     return r.returncode
 
 

@@ -1,15 +1,15 @@
 -- The i-th line of an accepted file is opened by its i-th head. Assumes nothing.
-use mathlib.Core.Path.{_≡_, refl, sym, ap, _∙_, subst}
-use mathlib.Core.Bool.{Bool, true, false, not}
+use mathlib.Core.Path.{_≡_, refl, sym, ap, _∙_}
+use mathlib.Core.Bool.{Bool, true, false}
 use mathlib.Core.List.{List, [], _∷_, _++_, append-assoc, append-nil}
 use Prim.Native.Nat.{ℕ, _+_, _-_, _*_, _<_}
 use native.Mathlib.Omega.{arith}
 use lib.ListN.{length, drop, getD}
 use lib.Seq.{getD-take, getD-drop}
-use lib.Dec.{T, eqb}
+use lib.Dec.{eqb}
 use borrow.Author.Tests.{eqb-true}
 use Rattle.law.specs.Words.{need, needAll}
-use Rattle.law.proofs.Tests.{pick-case}
+use Rattle.law.proofs.Tests.{pick-case, false-true}
 use Rattle.law.proofs.Newest.{written, block-at}
 use Rattle.rules.specs.declared.Head.{Head}
 use Rattle.rules.specs.declared.Record.{Record}
@@ -37,9 +37,6 @@ linesIn (Accepted lines) = lines
 isAccepted : Outcome → Bool
 isAccepted (Refused f) = false
 isAccepted (Accepted lines) = true
-
-false-true : false ≡ true → ⊥
-false-true e = subst (λ (b : Bool). T (not b)) e tt
 
 -- a record that is not refused, taken in
 head-on : (stand : Stand) (bytes : List ℕ) (r : Record) (more : List Head) → judgeRecord (viewOf stand) (runsOf stand) r .number ≡ 0

@@ -17,6 +17,7 @@ use Rattle.law.proofs.Tallies.{tally-front}
 use Rattle.field.specs.Field.{u8, u16, u32}
 use Rattle.field.specs.Bytes.{u32Bytes, cellsBytes}
 use Rattle.field.proofs.Laws.{u32-from}
+use Rattle.field.proofs.Puts.{u32-sized, cells-sized, four-back, cell-back}
 use Rattle.rules.specs.declared.Masks.{Masks}
 use Rattle.rules.specs.declared.Pair.{Pair}
 use Rattle.rules.specs.declared.Record.the-variants.{OfDay}
@@ -76,23 +77,6 @@ module _ (bitOf : List ℕ → ℕ) (most : (s : List ℕ) → bitOf s ≤ 1) (s
   unfolding maskOf
   mask-bit h l = bits-at (λ k. bitOf (lineFrom k s)) hoursOfDay h (λ k. most (lineFrom k s)) l
 
--- ---- numbers read from their bytes
-cells-long : (cells : List ℕ) → length (cellsBytes u32Bytes cells) ≡ 4 * length cells
-unfolding cellsBytes u32Bytes
-cells-long [] = refl
-cells-long (x ∷ cells) = omega (arith, cells-long cells)
-
-pub four-back : (x : ℕ) → x < 2 ^ 32 → x % 256 + 256 * (x / 256 % 256) + 65_536 * (x / 256 / 256 % 256 + 256 * (x / 256 / 256 / 256 % 256)) ≡ x
-four-back x l = omega arith
-
-pub cell-back : (cells rest : List ℕ) (k : ℕ) → k < length cells → getD cells k 0 < 2 ^ 32 → u32 (cellsBytes u32Bytes cells ++ rest) (4 * k) ≡ getD cells k 0
-unfolding cellsBytes u32Bytes u32 u16 u8
-cell-back [] rest k l m = absurd (omega arith)
-cell-back (x ∷ cells) rest zero l m = four-back x m
-cell-back (x ∷ cells) rest (suc k) l m =
-    let bytes = cellsBytes u32Bytes (x ∷ cells) ++ rest in
-    ap (u32 bytes) (let e : 4 * suc k ≡ 4 + 4 * k = omega arith in e) ∙ sym (u32-from 4 bytes (4 * k)) ∙ cell-back cells rest k (omega arith) m
-
 -- ---- the record of a day, with what stands behind it
 abbrev pub masksAs : ℕ → List ℕ → Masks
 masksAs day s = record { day = day; run = maskOf runBit s; measured = maskOf measuredBit s }
@@ -105,7 +89,7 @@ dayAs near day s = record { masks = masksAs day s; pairs = table (λ h. pairAs n
 
 pub record-long : (near : ℕ → ℕ → ℕ) (day : ℕ) (s : List ℕ) → length (dayRecord near day s) ≡ 205
 unfolding dayRecord u32Bytes patternsOf
-record-long near day s = omega (arith, cells-long (patternsOf near s), table-length (patternOf near s) 48)
+record-long near day s = omega (arith, cells-sized u32Bytes 4 u32-sized (patternsOf near s), table-length (patternOf near s) 48)
 
 module _ (near : ℕ → ℕ → ℕ) (day : ℕ) (s rest : List ℕ) where
   pub masks-read : masksOf (dayRecord near day s ++ rest) ≡ masksAs day s

@@ -15,6 +15,7 @@ use lib.Ieee.Exact.{HasValue}
 use borrow.Author.Tests.{ne-eqb}
 use denote.Ref.{RefT, now}
 use Rattle.law.proofs.Seek.{seek-first, seek-none}
+use Rattle.law.proofs.Tests.{false-true}
 use Rattle.reading.specs.declared.Hour.{Hour}
 use Rattle.reading.specs.Reading.{reading, allowed, exact}
 use Rattle.reading.proofs.Laws.{units-exact}
@@ -46,7 +47,7 @@ use Rattle.survey.proofs.governing_survey.Met.{met as governing-met}
 use Rattle.import.proofs.import_days.Met.{met as import-met}
 use Rattle.nearest.proofs.Back.{back}
 use Rattle.demands.specs.Demands.{Call, Result, Lent, Kept, Version, Keeps, Taken, NoneOfFour, EveryRowNear, RefusesAll, PanelExact, Governs, Demands, Code}
-use Rattle.demands.proofs.Falsity.{false-true, differ}
+use Rattle.demands.proofs.Falsity.{differ}
 use Rattle.demands.proofs.Files.{second, two, outfall, dirtier, mixed, callOf, lent-all, rowsTo, Given, given-all}
 use Rattle.demands.proofs.Rows.{row-near}
 use Rattle.demands.proofs.Imports.{brings-in}

@@ -13,7 +13,7 @@ use lib.Dec.{leb, eqb}
 use borrow.Author.Tests.{lt-ltb, eq-eqb, eqb-true}
 use Rattle.law.specs.Numbers.{hoursOfDay, perMg, perCubicMetre}
 use Rattle.law.specs.Words.{need, needAll, pick, table, tally}
-use Rattle.law.proofs.Tests.{need-le, need-lt, need-not-lt, pick-eq, pick-not-eq, pick-case}
+use Rattle.law.proofs.Tests.{false-true, need-le, need-lt, need-not-lt, pick-eq, pick-not-eq, pick-case}
 use Rattle.law.proofs.Tallies.{tally-same}
 use Rattle.law.proofs.Tabled.{table-is}
 use Rattle.field.specs.Field.{u8, u16, u32}
@@ -41,7 +41,6 @@ use Rattle.import.specs.Line.{stateOf, concentrationOf, flowOf}
 use Rattle.import.specs.Import.{dayBytes, judged, daysOf, lineFrom, runBit, measuredBit, maskOf, concentrationCell, flowCell, dayRecord, recordsOf}
 use Rattle.import.proofs.Texts.{SoundDay, concentration-near, flow-near, day-sound}
 use Rattle.demands.specs.Imports.{endBytes, SoundHead, daysOnly}
-use Rattle.demands.proofs.Falsity.{false-true}
 use Rattle.demands.proofs.DayBytes.{run-most, measured-most, mask-below, mask-bit, masksAs, dayAs, record-long, masks-read, size-read, record-read, day-read, pair-as, measured-as}
 
 -- ---- nothing refuses a day of an accepted text

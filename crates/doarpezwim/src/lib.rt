@@ -73,7 +73,7 @@ pub extern "C" fn doarpezwim_governing_survey<'a>(
 pub extern "C" fn doarpezwim_import(text: &[u8], records: &mut [u8], answer: &mut [u64; 3]) -> u32
     ensures { λ r. ⌜ ImportFace (now (text .entry)) (now (records .entry)) r (now (answer .exit)) (now (records .exit)) ⌝ }
 {
-    let a = import::import_days(text, records);
-    *answer = faces::import_cells(a);
-    a.number
+    let said = import::import_days(text, records);
+    *answer = faces::import_cells(said);
+    said.number
 }

@@ -1,7 +1,7 @@
--- Numbers written one behind the other. Assumes nothing.
+-- Numbers written one behind the other, and read back. Assumes nothing.
 use mathlib.Core.Path.{_≡_, refl, sym, ap, _∙_, subst}
 use mathlib.Core.List.{List, [], _∷_, _++_, append-nil, append-assoc}
-use Prim.Native.Nat.{ℕ, zero, suc, _+_, _*_, _<_, _≤_}
+use Prim.Native.Nat.{ℕ, zero, suc, _+_, _*_, _/_, _%_, _^_, _<_, _≤_}
 use native.Mathlib.Nat.{mul-zero, mul-suc}
 use native.Mathlib.Numerals.{add-one}
 use native.Mathlib.Omega.{arith}
@@ -10,6 +10,8 @@ use lib.Seq.{take-suc, take-length}
 use Rattle.law.specs.Written.{Wrote}
 use Rattle.law.proofs.Wrote.{wrote-none, wrote-byte, wrote-on, wrote-as}
 use Rattle.field.specs.Bytes.{u32Bytes, u64Bytes, cellsBytes}
+use Rattle.field.specs.Field.{u8, u16, u32}
+use Rattle.field.proofs.Laws.{u32-from}
 
 -- ---- four bytes, and twice four
 pub wrote-four : (old : List ℕ) (at a b c d : ℕ) → at + 4 ≤ length old → Wrote old at (a ∷ b ∷ c ∷ d ∷ []) (set (set (set (set old at a) (at + 1) b) (at + 2) c) (at + 3) d) (at + 4)
@@ -53,7 +55,7 @@ wrote-joined a b c d e ws xs ys zs i j k l m p q r s =
 
 -- ---- a loop over cells of one width
 module _ (bytes : ℕ → List ℕ) (width : ℕ) (sized : (x : ℕ) → length (bytes x) ≡ width) where
-  cells-sized : (cells : List ℕ) → length (cellsBytes bytes cells) ≡ width * length cells
+  pub cells-sized : (cells : List ℕ) → length (cellsBytes bytes cells) ≡ width * length cells
   unfolding cellsBytes
   cells-sized [] = sym (mul-zero width)
   cells-sized (x ∷ cells) = length-append (bytes x) (cellsBytes bytes cells) ∙ omega (arith, sized x, cells-sized cells, mul-suc width (length cells))
@@ -103,3 +105,15 @@ module _ (bytes : ℕ → List ℕ) (width : ℕ) (sized : (x : ℕ) → length 
   putting-done old out cells at end i p l =
       let e : i ≡ length cells = omega (arith, p .most, l) in
       wrote-as old out (cellsBytes bytes (take i cells)) (cellsBytes bytes cells) at end (ap (λ (k : ℕ). cellsBytes bytes (take k cells)) e ∙ ap (cellsBytes bytes) (take-length cells)) (p .wrote)
+
+-- ---- what is written is read back
+pub four-back : (x : ℕ) → x < 2 ^ 32 → x % 256 + 256 * (x / 256 % 256) + 65_536 * (x / 256 / 256 % 256 + 256 * (x / 256 / 256 / 256 % 256)) ≡ x
+four-back x l = omega arith
+
+pub cell-back : (cells rest : List ℕ) (k : ℕ) → k < length cells → getD cells k 0 < 2 ^ 32 → u32 (cellsBytes u32Bytes cells ++ rest) (4 * k) ≡ getD cells k 0
+unfolding cellsBytes u32Bytes u32 u16 u8
+cell-back [] rest k l m = absurd (omega arith)
+cell-back (x ∷ cells) rest zero l m = four-back x m
+cell-back (x ∷ cells) rest (suc k) l m =
+    let bytes = cellsBytes u32Bytes (x ∷ cells) ++ rest in
+    ap (u32 bytes) (let e : 4 * suc k ≡ 4 + 4 * k = omega arith in e) ∙ sym (u32-from 4 bytes (4 * k)) ∙ cell-back cells rest k (omega arith) m
