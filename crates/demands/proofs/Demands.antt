@@ -46,6 +46,7 @@ use Rattle.panel.proofs.Panel.hour.Met.{met as hour-met}
 use Rattle.survey.proofs.governing_survey.Met.{met as governing-met}
 use Rattle.import.proofs.import_days.Met.{met as import-met}
 use Rattle.nearest.proofs.Back.{back}
+use Rattle.import.proofs.Grammar.{formed-is}
 use Rattle.demands.specs.Demands.{Call, Result, Lent, Kept, Version, Keeps, Taken, NoneOfFour, EveryRowNear, RefusesAll, PanelExact, Governs, Demands, Code}
 use Rattle.demands.proofs.Falsity.{differ}
 use Rattle.demands.proofs.Files.{second, two, outfall, dirtier, mixed, callOf, lent-all, rowsTo, Given, given-all}
@@ -283,6 +284,7 @@ demands =
       panel = panel-exact;
       survey = governs;
       imports = brings-in;
+      lines = formed-is;
       decimals = back;
     }
 

@@ -15,6 +15,7 @@ use Rattle.panel.proofs.Panel.hour.Statement.{statement as hourMeets}
 use Rattle.survey.proofs.governing_survey.Statement.{statement as governingMeets}
 use Rattle.import.proofs.import_days.Statement.{statement as importMeets}
 use Rattle.nearest.specs.Nearest.{Nearest}
+use Rattle.import.specs.Grammar.{FormedAs}
 use Rattle.demands.specs.Imports.{BringsIn}
 
 -- what an account call is lent: a file, cells for rows, and a work table each for concentration and flow; what it answers, and what the slices hold then
@@ -132,6 +133,8 @@ pub record Demands : Type 0 where
   -- A TEXT BROUGHT IN (A5), any text into any buffer: one result and no second; the records of one that is accepted say hour by hour what its lines say, and
   -- the account refuses none of them (read `BringsIn`)
   pub imports : (text buffer : List ℕ) → BringsIn text buffer
+  -- ITS LINES: the test of a line is the grammar's, no more and no less (read `Grammar.antt` of `import`)
+  pub lines : (text : List ℕ) → FormedAs text
   -- OVER THE DECIMALS: the reading nearest to n / scale is rounded back to n, at every scale that is fine enough below 2^j; two decimals and none are its
   -- instances, by 100 and 1
   pub decimals : (n scale j bits : ℕ) → n < scale * 2 ^ j → scale * 2 ^ j < 2 ^ 24 → Nearest n scale bits → rounded scale (reading bits) ≡ n

@@ -7,5 +7,6 @@ pub mod DayWritten
 pub mod Faults
 pub mod Judged
 pub mod Unmeasured
+pub mod Grammar
 pub mod Taking
 pub mod Bringing

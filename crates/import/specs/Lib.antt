@@ -1,5 +1,6 @@
 -- Document 02, A5: the historian's text, line by line, what refuses it, and the day records that it becomes.
 pub mod Line
+pub mod Grammar
 pub mod Import
 pub mod Parts
 pub mod Opened
