@@ -41,10 +41,10 @@ extern "C" {
 #define DOARPEZWIM_IMPORT_CELLS 3
 
 /*
- * Bytes of stack that a call needs: doarpezwim_account takes 33,024 and what it calls 112 more; the import's takes 416,
- * the panel's and the survey's less than 100. Measured, not proved: read off the machine code of libdoarpezwim.a, and
- * that of the account seen on a stack that was painted. Where memset and memcpy of the C library are bound at their
- * first call, the loader takes some more for itself.
+ * Bytes of stack that a call needs: doarpezwim_account takes 33,024 and what it calls 112 more; the import takes 424, the
+ * panel's and the survey's calls less than 100. Measured, not proved: read off the machine code of libdoarpezwim.a, and
+ * seen on a stack that was painted. Where memset and memcpy of the C library are bound at their first call, the loader
+ * takes some more for itself.
  */
 #define DOARPEZWIM_STACK_BYTES 33136
 
