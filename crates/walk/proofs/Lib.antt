@@ -15,4 +15,5 @@ pub mod Outfalls
 pub mod Takes
 pub mod Going
 pub mod Promises
+pub mod Told
 pub mod Only

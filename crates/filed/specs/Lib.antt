@@ -1,0 +1,3 @@
+-- Document 02, A6: what a plant has filed, and what is said of it.
+pub mod Filed
+pub mod Parts

@@ -1,0 +1,11 @@
+-- What the parts of the code promise one another: no public call is stated in these words.
+use Prim.Native.Nat.{ℕ, _<_, _≤_}
+use mathlib.Core.List.{List}
+use mathlib.Core.Path.{_≡_}
+use lib.ListN.{length, getD}
+
+-- the first place at which filed cells are not the right ones, or how many of these there are
+pub record FirstWrong (filed right : List ℕ) (k : ℕ) : Type 0 where
+  pub within : k ≤ length right
+  pub before : (j : ℕ) → j < k → getD filed j 0 ≡ getD right j 0
+  pub there : k < length right → getD filed k 0 ≡ getD right k 0 → ⊥
