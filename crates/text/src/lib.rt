@@ -1,10 +1,12 @@
-// The texts that the program prints, written into a lent buffer: a refusal, or rows and totals.
+// The texts that the programs print, written into a lent buffer: a refusal, rows and totals, what is said of a filing.
 ghost use Prim.Native.Nat.{_*_, _≤_};
+ghost use mathlib.Core.List.{[], _∷_, _++_};
 ghost use lib.ListN.{length};
 ghost use Rattle.law.specs.Numbers.{rowCells};
 ghost use Rattle.rules.specs.Judge.{refuse};
 ghost use Rattle.law.specs.Written.{Wrote};
-ghost use Rattle.text.specs.Line.{refusedLine};
+ghost use Rattle.text.specs.Line.{refusedLine, wrongLine, yesLine};
+ghost use Rattle.text.specs.Numbers.{spaced};
 ghost use Rattle.text.specs.Text.{Text, rowsText, statedLines};
 use crate::writing::put_bytes;
 use crate::writing::put_spaced;
@@ -14,16 +16,41 @@ mod writing;
 // No text is longer: 48 rows of seven numbers, and a line of five.
 const LONGEST: usize = 8192;
 
-// "refused N OFFSET"; 0 where the buffer could be too short.
-pub fn refused_text(text: &mut [u8], number: u64, place: u64) -> usize
-    ensures { λ r. ⌜ Text (refusedLine (refuse number place)) (now (text .entry)) (now (text .exit)) r ⌝ }
+// A word, two numbers and a line feed.
+fn word_text(text: &mut [u8], word: &[u8], first: u64, second: u64) -> usize
+    requires { ⌜ length (now word) ≤ 8 ⌝ }
+    ensures { λ r. ⌜ Text (now (word .entry) ++ spaced (first ∷ second ∷ [])) (now (text .entry)) (now (text .exit)) r ⌝ }
 {
     if text.len() < LONGEST {
         return 0;
     }
-    let at = put_bytes(text, 0, b"refused ");
-    let cells = [number, place];
+    let at = put_bytes(text, 0, word);
+    let cells = [first, second];
     put_spaced(text, at, &cells)
+}
+
+// "refused N OFFSET"; 0 where the buffer could be too short.
+pub fn refused_text(text: &mut [u8], number: u64, place: u64) -> usize
+    ensures { λ r. ⌜ Text (refusedLine (refuse number place)) (now (text .entry)) (now (text .exit)) r ⌝ }
+{
+    word_text(text, b"refused ", number, place)
+}
+
+// "wrong ROW FIELD"; 0 where the buffer could be too short.
+pub fn wrong_text(text: &mut [u8], row: u64, field: u64) -> usize
+    ensures { λ r. ⌜ Text (wrongLine row field) (now (text .entry)) (now (text .exit)) r ⌝ }
+{
+    word_text(text, b"wrong ", row, field)
+}
+
+// "yes"; 0 where the buffer could be too short.
+pub fn yes_text(text: &mut [u8]) -> usize
+    ensures { λ r. ⌜ Text yesLine (now (text .entry)) (now (text .exit)) r ⌝ }
+{
+    if text.len() < LONGEST {
+        return 0;
+    }
+    put_bytes(text, 0, b"yes\n")
 }
 
 // A line for each of the first n rows; a row of seven numbers is at most 148 bytes long.
