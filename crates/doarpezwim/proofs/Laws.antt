@@ -1,6 +1,6 @@
 -- The promise of each face from what the call behind it promises. Assumes nothing.
 use mathlib.Core.Path.{_≡_, refl, _∙_, sym, ap}
-use mathlib.Core.List.{List, []}
+use mathlib.Core.List.{List, [], _∷_}
 use mathlib.Core.Logic.{⊎-elim}
 use Prim.Native.Nat.{ℕ, _≤_, _<_}
 use native.Mathlib.Omega.{arith}
@@ -18,9 +18,11 @@ use Rattle.panel.specs.declared.Stepped.{Stepped}
 use Rattle.panel.specs.Panel.{unchanged, panelStep}
 use Rattle.import.specs.declared.Imported.{Imported}
 use Rattle.import.specs.Import.{Promise as Imports}
+use Rattle.filed.specs.declared.Verdict.{Verdict}
+use Rattle.filed.specs.Filed.{verdictOnPaper, checked}
 use Rattle.survey.specs.Governing.{Part, here, governing}
 use Rattle.survey.proofs.Laws.{governing-shape}
-use Rattle.doarpezwim.specs.Faces.{answerCells, AccountFace, hourOfKind, faceStep, PanelFace, PartFace, importCells, ImportFace}
+use Rattle.doarpezwim.specs.Faces.{answerCells, AccountFace, hourOfKind, faceStep, PanelFace, PartFace, importCells, ImportFace, verdictCellsBy, verdictCells, CheckFace}
 
 -- ---- the account
 pub account-face : (file rows concentrations flows : List ℕ) (a : Answer) (answer' rows' concentrations' flows' : List ℕ) → Promise file rows concentrations flows a rows' concentrations' flows' → answer' ≡ answerCells a → AccountFace file rows concentrations flows (a .number) answer' rows' concentrations' flows'
@@ -31,6 +33,22 @@ account-face file rows concentrations flows a answer' rows' concentrations' flow
 pub import-face : (text records : List ℕ) (a : Imported) (answer' records' : List ℕ) → Imports text records a records' → answer' ≡ importCells a → ImportFace text records (a .number) answer' records'
 import-face text records a answer' records' p e =
     record { near = p .near; nearest = p .nearest; returns = ap (λ (x : Imported). x .number) (p .answers); answers = e ∙ ap importCells (p .answers); leaves = p .holds }
+
+-- ---- what is said of a filing
+module _ (file rows totals : List ℕ) (v : Verdict) (cells : List ℕ) (p : verdictOnPaper v ≡ checked file rows totals) (e : cells ≡ verdictCells (verdictOnPaper v)) where
+  said-by : (number : ℕ) (values : List ℕ) → getD (verdictCellsBy number values) 0 0 ≤ 2
+  unfolding verdictCellsBy
+  said-by number [] = omega arith
+  said-by number (place ∷ []) = omega arith
+  said-by number (row ∷ field ∷ more) = omega arith
+
+  -- the first cell is one of three
+  pub said-most : getD cells 0 0 ≤ 2
+  unfolding verdictCells
+  said-most = rw e (said-by (verdictOnPaper v .number) (verdictOnPaper v .values))
+
+  pub check-face : CheckFace file rows totals (getD cells 0 0) cells
+  check-face = let q = e ∙ ap verdictCells p in record { returns = ap (λ (xs : List ℕ). getD xs 0 0) q; answers = q }
 
 -- ---- the panel
 module _ (p : Panel) (kind : ℕ) (concentration flow : Float) where

@@ -7,7 +7,7 @@ use lib.ListN.{length}
 use Rattle.panel.specs.declared.Panel.{Panel}
 use Rattle.import.specs.Import.{answerOf, Promise}
 use Rattle.import.proofs.Only.{import-only}
-use Rattle.doarpezwim.specs.Faces.{AccountFace, PanelFace, PartFace, ImportFace}
+use Rattle.doarpezwim.specs.Faces.{AccountFace, PanelFace, PartFace, ImportFace, CheckFace}
 
 pub doarpezwim-account : (file rows conc flow : List ℕ) (r₁ r₂ : ℕ) (answer₁ answer₂ rows₁ rows₂ conc₁ conc₂ flow₁ flow₂ : List ℕ)
     → AccountFace file rows conc flow r₁ answer₁ rows₁ conc₁ flow₁ → AccountFace file rows conc flow r₂ answer₂ rows₂ conc₂ flow₂
@@ -34,3 +34,7 @@ doarpezwim-import text records r₁ r₂ answer₁ answer₂ records₁ records�
     let left : Promise text records a records₁ = record { near = p .near; nearest = p .nearest; answers = refl; holds = p .leaves } in
     let right : Promise text records a records₂ = record { near = q .near; nearest = q .nearest; answers = refl; holds = q .leaves } in
     (p .returns ∙ sym (q .returns), p .answers ∙ sym (q .answers), import-only text records a a records₁ records₂ left right .1)
+
+pub doarpezwim-check : (file rows totals : List ℕ) (r₁ r₂ : ℕ) (answer₁ answer₂ : List ℕ) → CheckFace file rows totals r₁ answer₁ → CheckFace file rows totals r₂ answer₂
+    → (r₁ ≡ r₂) × (answer₁ ≡ answer₂)
+doarpezwim-check file rows totals r₁ r₂ answer₁ answer₂ p q = (p .returns ∙ sym (q .returns), p .answers ∙ sym (q .answers))

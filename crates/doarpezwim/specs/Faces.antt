@@ -18,6 +18,8 @@ use Rattle.panel.specs.Panel.{unchanged, panelStep}
 use Rattle.nearest.specs.Nearest.{ToNearest}
 use Rattle.import.specs.declared.Imported.{Imported}
 use Rattle.import.specs.Import.{answerOf as importOf, bufferAfter}
+use Rattle.rules.specs.OnPaper.{OnPaper}
+use Rattle.filed.specs.Filed.{checked}
 
 -- the eight cells of an answer: "number and place (both 0 on acceptance), row count and" the "five totals"
 unfoldable pub answerCells : Answer → List ℕ
@@ -66,3 +68,17 @@ pub record ImportFace (text records : List ℕ) (r : ℕ) (answer' records' : Li
   pub returns : r ≡ importOf (length records) text .number
   pub answers : answer' ≡ importCells (importOf (length records) text)
   pub leaves : records' ≡ bufferAfter near text records
+
+-- the three cells of what is said of a filing: 0 where it agrees; 1, and the row and field that is wrong; 2, and the number and place of a refusal
+unfoldable pub verdictCellsBy : ℕ → List ℕ → List ℕ
+verdictCellsBy number [] = 0 ∷ 0 ∷ 0 ∷ []
+verdictCellsBy number (place ∷ []) = 2 ∷ number ∷ place ∷ []
+verdictCellsBy number (row ∷ field ∷ more) = 1 ∷ row ∷ field ∷ []
+
+unfoldable pub verdictCells : OnPaper → List ℕ
+verdictCells p = verdictCellsBy (p .number) (p .values)
+
+-- the promise of `doarpezwim_check`: the first of these cells, and the cells
+pub record CheckFace (file rows totals : List ℕ) (r : ℕ) (answer' : List ℕ) : Type 0 where
+  pub returns : r ≡ getD (verdictCells (checked file rows totals)) 0 0
+  pub answers : answer' ≡ verdictCells (checked file rows totals)

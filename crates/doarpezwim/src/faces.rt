@@ -1,7 +1,9 @@
 // What stands between the faces and the calls behind them: an answer in its cells, an hour by its kind, a part copied out.
 ghost use mathlib.Core.Path.{_≡_};
 ghost use lib.ListN.{length};
-ghost use Rattle.doarpezwim.specs.Faces.{answerCells, importCells, hourOfKind};
+ghost use Rattle.filed.specs.Filed.{verdictOnPaper};
+ghost use Rattle.doarpezwim.specs.Faces.{answerCells, importCells, verdictCells, hourOfKind};
+use filed::Verdict;
 use import::Imported;
 use reading::Hour;
 use rules::Answer;
@@ -28,6 +30,17 @@ pub fn import_cells(a: Imported) -> [u64; 3]
     ensures { λ r. ⌜ r ≡ importCells a ⌝ }
 {
     [a.number as u64, a.line as u64, a.count as u64]
+}
+
+// What is said of a filing, likewise: it agrees, it is wrong, it is refused.
+pub fn verdict_cells(v: Verdict) -> [u64; 3]
+    ensures { λ r. ⌜ r ≡ verdictCells (verdictOnPaper v) ⌝ }
+{
+    match v {
+        Verdict::Agrees => [0, 0, 0],
+        Verdict::Wrong(row, field) => [1, row as u64, field as u64],
+        Verdict::Refused(f) => [2, f.number as u64, f.place as u64],
+    }
 }
 
 // Kind 0 is a stopped hour, 1 a missing one, 2 a measured one.

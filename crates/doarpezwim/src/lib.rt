@@ -1,6 +1,6 @@
-// The faces for C and Rust: the account, a panel's hour, the governing survey, the import of a text.
+// The faces for C and Rust: the account, a panel's hour, the governing survey, the import of a text, the check of what was filed.
 ghost use Rattle.survey.specs.Governing.{governing};
-ghost use Rattle.doarpezwim.specs.Faces.{panelOf, AccountFace, PanelFace, PartFace, ImportFace};
+ghost use Rattle.doarpezwim.specs.Faces.{panelOf, AccountFace, PanelFace, PartFace, ImportFace, CheckFace};
 use panel::Panel;
 
 mod faces;
@@ -76,4 +76,19 @@ pub extern "C" fn doarpezwim_import(text: &[u8], records: &mut [u8], answer: &mu
     let said = import::import_days(text, records);
     *answer = faces::import_cells(said);
     said.number
+}
+
+// Three cells for the answer: whether it agrees, is wrong or refused, and row and field, or number and place.
+#[no_mangle]
+pub extern "C" fn doarpezwim_check(
+    file: &[u8],
+    rows: &[u64],
+    totals: &[u64; 5],
+    answer: &mut [u64; 3],
+) -> u32
+    ensures { λ r. ⌜ CheckFace (now (file .entry)) (now (rows .entry)) (now (totals .entry)) r (now (answer .exit)) ⌝ }
+{
+    let cells = faces::verdict_cells(filed::check_filed(file, rows, totals));
+    *answer = cells;
+    cells[0] as u32
 }
