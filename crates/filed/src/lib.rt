@@ -1,10 +1,20 @@
 // What a plant has filed, checked against the account of its record file.
+mod against;
 mod compare;
+mod texts;
 
-use crate::compare::verdict_of;
+use crate::against::account_of;
+use crate::against::against_account;
+use crate::against::own_refusal;
+use crate::texts::check_text;
+use crate::texts::verdict_text;
 use rules::Fault;
 ghost use mathlib.Core.Path.{_≡_};
+ghost use Prim.Native.Nat.{_≤_};
+ghost use lib.ListN.{length};
+ghost use Rattle.text.specs.Text.{Text};
 ghost use Rattle.filed.specs.Filed.{verdictOnPaper, checked};
+ghost use Rattle.filed.specs.Said.{said};
 
 // Rows and totals are those of the account; or the first row and field that is wrong, both from 0; or refused.
 pub enum Verdict {
@@ -13,31 +23,28 @@ pub enum Verdict {
     Refused(Fault),
 }
 
-// "Wrong row count", with place 0.
-const WRONG_COUNT: Fault = Fault {
-    number: 22,
-    place: 0,
-};
-
-// The file is walked with tables of its own; then the rows' cells and the totals are compared with those of the account.
+// Filed rows, seven cells each, and the five totals, beside those of the account.
 pub fn check_filed(file: &[u8], rows: &[u64], totals: &[u64; 5]) -> Verdict
     ensures { λ r. ⌜ verdictOnPaper r ≡ checked (now (file .entry)) (now (rows .entry)) (now (totals .entry)) ⌝ }
 {
-    let mut concentrations = [0u32; 2208];
-    let mut flows = [0u32; 2208];
-    let w = walk::walk_file(file, &mut concentrations, &mut flows);
+    let w = account_of(file);
     let a = w.answer;
     if a.number != 0 {
-        return Verdict::Refused(Fault {
-            number: a.number,
-            place: a.place,
-        });
+        return own_refusal(a);
     }
-    let n = 7 * a.rows;
-    if rows.len() != n {
-        return Verdict::Refused(WRONG_COUNT);
+    against_account(w, rows, totals)
+}
+
+// What the program says of a record file and the text of a filing: 13 comes before either is looked at.
+pub fn filed_text(file: &[u8], text: &[u8], line: &mut [u8]) -> usize
+    ensures { λ r. ⌜ Text (said (now (file .entry)) (now (text .entry))) (now (line .entry)) (now (line .exit)) r ⌝ }
+    ensures { λ r. ⌜ r ≤ length (now (line .exit)) ⌝ }
+{
+    if file.len() > 65536 {
+        return text::refused_text(line, 13, 0);
     }
-    let table = w.rows;
-    let right = a.totals;
-    verdict_of(rows, &table[0..n], totals, &right)
+    if text.len() > 65536 {
+        return text::refused_text(line, 13, 0);
+    }
+    verdict_text(check_text(file, text), line)
 }
