@@ -1,4 +1,4 @@
--- Laws about the lines of a filing, what the proofs of the code lean on, and that no second answer meets the promise.
+-- Laws about the lines of a filing, what the proofs of the code lean on, that no second answer meets the promise, and that what is printed is read back.
 pub mod Starts
 pub mod Held
 pub mod Next
@@ -7,3 +7,5 @@ pub mod Row
 pub mod Ending
 pub mod Reading
 pub mod Only
+pub mod Decimals
+pub mod Back

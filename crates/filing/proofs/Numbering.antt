@@ -39,11 +39,11 @@ module _ (m : ℕ) (s : List ℕ) where
   unfolding numbersIn pick need
   none-first l f = rw (l, f)
 
-  last-first : numberTo lineFeed s ≡ true → (numbersIn (suc m) s ≡ 1) × (valuesIn (suc m) s ≡ value (upTo lineFeed s) ∷ [])
+  pub last-first : numberTo lineFeed s ≡ true → (numbersIn (suc m) s ≡ 1) × (valuesIn (suc m) s ≡ value (upTo lineFeed s) ∷ [])
   unfolding numbersIn valuesIn pick
   last-first l = rw l (refl, refl)
 
-  more-first : numberTo lineFeed s ≡ false → numberTo space s ≡ true
+  pub more-first : numberTo lineFeed s ≡ false → numberTo space s ≡ true
       → (numbersIn (suc m) s ≡ oneMore (numbersIn m (past space s))) × (valuesIn (suc m) s ≡ value (upTo space s) ∷ valuesIn m (past space s))
   unfolding numbersIn valuesIn pick need
   more-first l f = rw (l, f) (refl, refl)

@@ -18,7 +18,7 @@ use Rattle.law.proofs.Wrote.{wrote-on, wrote-as}
 digit : (n : ℕ) → glyph (n % 10) ≡ 48 + n % 10
 digit n = ap (λ (t : Bool). cond t (48 + n % 10) (87 + n % 10)) (lt-ltb (n % 10) 10 (omega arith))
 
-ten-times : (k : ℕ) → 10 ^ suc k ≡ 10 * 10 ^ k
+pub ten-times : (k : ℕ) → 10 ^ suc k ≡ 10 * 10 ^ k
 ten-times k = let e : suc k ≡ 1 + k = omega arith in ap (λ (j : ℕ). 10 ^ j) e ∙ pow-add 10 1 k
 
 ones-some : (k : ℕ) → 1 ≤ 10 ^ k
