@@ -101,7 +101,7 @@ module _ (text rows rows' : List ℕ) (at line count : ℕ) (p : Reading text ro
         let on : readOf text ≡ totalsFrom line (p .cells) u = left-one ∙ rw (sym starts ∙ e) (ap (totalsFrom line (p .cells)) (drop-drop 6 at text)) in
         promised text rows rows' r _ on (f (p .cells) (p .many)) (p .holds ∙ ap (held rows) (sym (totals-cells line (p .cells) u)))
 
-    module _ (f : t ≡ false) (number many end : ℕ) (rows'' : List ℕ) (w : RowRead text at count rows' rows'' number many end) where
+    module _ (f : t ≡ false) (before number many end : ℕ) (rows'' : List ℕ) (w : RowRead text at before rows' rows'' number many end) where
       -- behind the row, if neither test refuses it
       abbrev after : Read
       after = readFrom m (suc line) (p .cells ++ valuesIn 7 s) (past lineFeed s)
@@ -123,9 +123,9 @@ module _ (text rows rows' : List ℕ) (at line count : ℕ) (p : Reading text ro
           go true false e = ap (λ (k : ℕ). stopped k line (p .cells)) (sym e)
           go true true e = absurd (omega arith)
 
-      pub row-on : number ≡ 0 → length rows'' ≡ length rows' → Reading text rows rows'' end (line + 1) (count + many)
+      pub row-on : number ≡ 0 → before ≡ count → length rows'' ≡ length rows' → Reading text rows rows'' end (line + 1) (count + many)
       unfolding need
-      row-on z long =
+      row-on z b long =
           let x = w .taken z in
           let c = p .cells in
           let next : readOf text ≡ after = left-row ∙ go (isRow s) (allFit (valuesIn 7 s)) (w .numbers) in
@@ -139,7 +139,7 @@ module _ (text rows rows' : List ℕ) (at line count : ℕ) (p : Reading text ro
             few = omega (arith, p .few, x .on);
             lines = omega (arith, p .lines, x .on, x .some);
             holds =
-                x .holds ∙ ap₂ (λ (u : List ℕ) (k : ℕ). take k u ++ held (drop k u) (valuesIn 7 s)) (p .holds) (p .many) ∙ held-on rows c (valuesIn 7 s);
+                x .holds ∙ ap₂ (λ (u : List ℕ) (k : ℕ). take k u ++ held (drop k u) (valuesIn 7 s)) (p .holds) (b ∙ p .many) ∙ held-on rows c (valuesIn 7 s);
             long = long ∙ p .long;
           }
         where

@@ -1,5 +1,5 @@
 -- `filing::read_filing` meets its contract: a row that is taken adds to what the loop holds, and each way out gives the promise. Assumes nothing.
-use mathlib.Core.Path.{_∙_}
+use mathlib.Core.Path.{refl, _∙_}
 use Prim.Native.Nat.{_-_}
 use native.Mathlib.Omega.{arith}
 use lib.ListN.{length}
@@ -52,7 +52,7 @@ returns-2 c =
     let e = w .before .before in
     let s = e .before in
     let i = s .before .before in
-    row-refused _ _ _ _ _ _ (i .before .loop .inv) (i .loop-test .taken) _ (s .starts-with .ensures) (e .if1 .left) _ _ _ _ (w .row-at .ensures)
+    row-refused _ _ _ _ _ _ (i .before .loop .inv) (i .loop-test .taken) _ (s .starts-with .ensures) (e .if1 .left) _ _ _ _ _ (w .row-at .ensures)
     (t .if2 .taken) _ (c .refused .ensures)
 
 add-count : tie.Need-add-count Inv-loop μ-loop
@@ -82,8 +82,8 @@ loop-again c =
     let e = w .before .before in
     let s = e .before in
     let i = s .before .before in
-    row-on _ _ _ _ _ _ (i .before .loop .inv) (i .loop-test .taken) _ (s .starts-with .ensures) (e .if1 .left) _ _ _ _ (w .row-at .ensures) (omega arith)
-    (w .row-at .kept .1 .1 .1 .0)
+    row-on _ _ _ _ _ _ (i .before .loop .inv) (i .loop-test .taken) _ (s .starts-with .ensures) (e .if1 .left) _ _ _ _ _ (w .row-at .ensures)
+    (omega arith) refl (w .row-at .kept .1 .1 .1 .0)
 
 same-length-3 : tie.Need-same-length-3 Inv-loop μ-loop
 same-length-3 c = c .before .before .loop .inv .long

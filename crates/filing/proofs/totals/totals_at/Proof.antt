@@ -25,14 +25,16 @@ returns-3 c =
     let f = t .before .before in
     let e = f .before .before in
     let n = e .before .before .before in
-    totals-not-last _ _ _ _ _ _ _ _ (n .numbers-at .ensures) (e .if1 .left) (not-false _ (f .if2 .left)) (t .if3 .taken) _ (c .refused3 .ensures)
+    totals-not-last _ _ _ _ _ _ _ _ (n .numbers-at .ensures) (e .if1 .left) (not-false _ (f .if2 .left))
+    (λ z. omega (arith, t .if3 .taken)) _ (c .refused3 .ensures)
 
 returns-4 : tie.Need-returns-4
 returns-4 c =
     let f = c .before .before in
     let e = f .before .before in
     let n = e .before .before .before in
-    totals-taken _ _ _ _ _ _ _ _ (n .numbers-at .ensures) (e .if1 .left) (not-false _ (f .if2 .left)) (c .if3 .left) (omega (arith, n .numbers-at .kept))
+    totals-taken _ _ _ _ _ _ _ _ (n .numbers-at .ensures) (e .if1 .left) (not-false _ (f .if2 .left))
+    (omega (arith, c .if3 .left)) (omega (arith, n .numbers-at .kept))
 
 pub totals-at-spec : {M : Type 1} → statement M
 totals-at-spec =
