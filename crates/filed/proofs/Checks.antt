@@ -4,7 +4,7 @@ use mathlib.Core.Bool.{Bool, true, false}
 use mathlib.Core.List.{List, _∷_, [], _++_}
 use Prim.Native.Nat.{ℕ, _+_, _-_, _*_, _<_, _≤_}
 use native.Mathlib.Omega.{arith}
-use lib.ListN.{length, take, drop}
+use lib.ListN.{length, take, drop, length-take}
 use lib.Seq.{take-at, take-all}
 use lib.Dec.{eqb}
 use borrow.Author.Tests.{le-leb, eq-eqb, ne-eqb}
@@ -14,18 +14,30 @@ use Rattle.rules.specs.declared.Answer.{Answer}
 use Rattle.rules.specs.OnPaper.{OnPaper}
 use Rattle.rules.specs.Outfalls.{Line}
 use Rattle.rules.specs.Judge.{refuse}
-use Rattle.rules.specs.Row.{rowsOf, totalsOf}
+use Rattle.rules.specs.Row.{totalsOf}
 use Rattle.rules.specs.Walk.{Refused, Accepted, outcome}
 use Rattle.rules.specs.Account.{refusal, acceptance, workFits}
 use Rattle.answers.proofs.Answers.{denied}
-use Rattle.answers.proofs.Rows.{rows-long}
 use Rattle.walk.specs.Books.{noRows}
 use Rattle.walk.proofs.Promises.{no-rows-long}
 use Rattle.walk.proofs.Told as told
-use Rattle.filing.specs.Filing.{readOf}
+use Rattle.filing.specs.declared.Filing.{Filing}
+use Rattle.filing.specs.Filing.{readOf, Promise as Reads}
 use Rattle.filed.specs.Filed.{refusedWith, withTotals, compared, againstLines, against, checked}
 use Rattle.filed.specs.Said.{againstRead, checkedText}
 use Rattle.filed.specs.Parts.{Accounted}
+
+-- the lent cells hold all cells of a text that has no more
+pub cells-kept : (cells rows rows' : List ℕ) (n : ℕ) → n ≡ length cells → n ≤ length rows → rows' ≡ take (length rows) cells ++ drop (length cells) rows → take (n - 0) (drop 0 rows') ≡ cells
+cells-kept cells rows rows' n e l h =
+    let m : n - 0 ≡ n = omega arith in
+    ap₂ take m h
+    ∙ ap (λ (xs : List ℕ). take n (xs ++ drop (length cells) rows)) (take-all (length rows) cells (omega arith))
+    ∙ take-at cells (drop (length cells) rows) n (sym e)
+
+-- the first cells of a table that is long enough
+pub front-long : (t : List ℕ) (n : ℕ) → n ≤ length t → length (take (n - 0) (drop 0 t)) ≡ n
+front-long t n l = omega (arith, length-take (n - 0) t)
 
 module _ (file : List ℕ) (a : Answer) (t : List ℕ) (w : Accounted file a t) where
   -- a number that is not 0 is the file's own refusal: two tables of a quarter are enough, and rows of 48 lines
@@ -85,27 +97,25 @@ module _ (file : List ℕ) (a : Answer) (t : List ℕ) (w : Accounted file a t) 
         let sums : a .totals ≡ totalsOf lines = ap (λ (b : Answer). b .totals) (told.lines-of file (w .conc) (w .flow) a t (w .conc') (w .flow') (w .promise) z .answers) in
         h ∙ ap₂ (λ (x y : List ℕ). compared (withTotals rows totals) (withTotals x y)) front sums ∙ (rw m) ∙ sym (checked-is rows totals)
 
-    -- a text that is refused, with its own number and line
-    pub text-refused : (text : List ℕ) → (readOf text .number ≡ 0 → ⊥) → refusedWith (refuse (readOf text .number) (readOf text .line)) ≡ checkedText file text
-    unfolding checkedText againstRead need
-    text-refused text n = rw (accepted, ne-eqb (readOf text .number) 0 n)
+    -- a text as it was read
+    module _ (text rows : List ℕ) (f : Filing) (rows' : List ℕ) (p : Reads text rows f rows') where
+      -- refused, with its own number and line
+      pub text-refused : (f .number ≡ 0 → ⊥) → refusedWith (record { number = f .number; place = f .line }) ≡ checkedText file text
+      unfolding checkedText againstRead need refuse
+      text-refused n = rw (p .numbers, p .lines, accepted, ne-eqb (readOf text .number) 0 (λ e. n (p .numbers ∙ e)))
 
-    text-is : (text : List ℕ) → readOf text .number ≡ 0 → checkedText file text ≡ againstLines (readOf text .cells) (readOf text .totals) lines
-    unfolding checkedText againstRead need
-    text-is text e = rw (accepted, eq-eqb (readOf text .number) 0 e)
+      module _ (e : f .number ≡ 0) where
+        text-is : checkedText file text ≡ againstLines (readOf text .cells) (readOf text .totals) lines
+        unfolding checkedText againstRead need
+        text-is = rw (accepted, eq-eqb (readOf text .number) 0 (sym (p .numbers) ∙ e))
 
-    -- a text with more cells than any account has
-    pub text-long : (text : List ℕ) → readOf text .number ≡ 0 → mostCells < length (readOf text .cells) → refusedWith (refuse 22 0) ≡ checkedText file text
-    text-long text e l = count-wrong (readOf text .cells) (readOf text .totals) (λ q. omega (arith, few)) ∙ sym (text-is text e)
+        -- with more cells than any account has
+        pub text-long : mostCells < f .count → refusedWith (refuse 22 0) ≡ checkedText file text
+        text-long l = count-wrong (readOf text .cells) (readOf text .totals) (λ q. omega (arith, few, p .counts)) ∙ sym text-is
 
-    -- any other: its cells are checked
-    pub text-checked : (text : List ℕ) → readOf text .number ≡ 0 → (r : OnPaper) → r ≡ checked file (readOf text .cells) (readOf text .totals) → r ≡ checkedText file text
-    text-checked text e r h = h ∙ checked-is (readOf text .cells) (readOf text .totals) ∙ sym (text-is text e)
-
--- the lent cells hold all cells of a text that has no more
-pub cells-kept : (cells rows rows' : List ℕ) (n : ℕ) → n ≡ length cells → n ≤ length rows → rows' ≡ take (length rows) cells ++ drop (length cells) rows → take (n - 0) (drop 0 rows') ≡ cells
-cells-kept cells rows rows' n e l h =
-    let m : n - 0 ≡ n = omega arith in
-    ap₂ take m h
-    ∙ ap (λ (xs : List ℕ). take n (xs ++ drop (length cells) rows)) (take-all (length rows) cells (omega arith))
-    ∙ take-at cells (drop (length cells) rows) n (sym e)
+        -- with no more: its cells are checked
+        pub text-checked : f .count ≤ length rows → (r : OnPaper) → r ≡ checked file (take (f .count - 0) (drop 0 rows')) (f .totals) → r ≡ checkedText file text
+        text-checked l r h =
+            h ∙ ap₂ (checked file) (cells-kept (readOf text .cells) rows rows' (f .count) (p .counts) l (p .leaves)) (p .totals)
+            ∙ checked-is (readOf text .cells) (readOf text .totals)
+            ∙ sym text-is

@@ -1,4 +1,5 @@
 -- What is said of a filing, and that no second answer meets it.
 pub mod Compared
 pub mod Checks
+pub mod Saying
 pub mod Only

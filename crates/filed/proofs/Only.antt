@@ -1,4 +1,4 @@
--- No second answer meets the promise of `check_filed`: what stands on paper tells the answers apart. Assumes nothing.
+-- No second answer meets the promise of `check_filed`, since what stands on paper tells the answers apart, nor of `filed_text`. Assumes nothing.
 use mathlib.Core.Path.{_≡_, refl, sym, ap, ap₂, _∙_}
 use mathlib.Core.List.{List}
 use Prim.Native.Nat.{ℕ}
@@ -7,7 +7,10 @@ use lib.ListN.{length, getD}
 use Rattle.rules.specs.OnPaper.{OnPaper}
 use Rattle.filed.specs.declared.Verdict.{Verdict}
 use Rattle.filed.specs.declared.Verdict.the-variants.{Agrees, Wrong, Refused as Unchecked}
+use Rattle.text.specs.Text.{Text}
+use Rattle.text.proofs.Only.{text-only}
 use Rattle.filed.specs.Filed.{verdictOnPaper, checked}
+use Rattle.filed.specs.Said.{said}
 
 long : {p q : OnPaper} → p ≡ q → length (p .values) ≡ length (q .values)
 long e = ap (λ (x : OnPaper). length (x .values)) e
@@ -28,3 +31,7 @@ paper-only (Unchecked f) (Unchecked g) e =
 
 pub check-only : (file rows totals : List ℕ) (v w : Verdict) → verdictOnPaper v ≡ checked file rows totals → verdictOnPaper w ≡ checked file rows totals → v ≡ w
 check-only file rows totals v w p q = paper-only v w (p ∙ sym q)
+
+pub filed-text-only : (file text old new₁ new₂ : List ℕ) (r₁ r₂ : ℕ) → Text (said file text) old new₁ r₁ → Text (said file text) old new₂ r₂
+    → (r₁ ≡ r₂) × (new₁ ≡ new₂)
+filed-text-only file text old new₁ new₂ r₁ r₂ = text-only old new₁ new₂ r₁ r₂ (said file text)

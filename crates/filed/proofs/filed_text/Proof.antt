@@ -1,63 +1,40 @@
+-- `filed::filed_text` meets its contract. Assumes nothing.
 use borrow.Author.Needs.{needs}
+use mathlib.Core.Path.{ap, _∙_}
+use Rattle.filed.specs.Said.{lineOf}
+use Rattle.filed.proofs.Saying.{text-of, long-file, long-text, not-long}
 use Rattle.filed.proofs.filed_text.Statement.{statement}
 use Rattle.filed.proofs.filed_text.Tie as tie
-use Rattle.filed.proofs.filed_text.Reads as reads
-use Rattle.filed.proofs.filed_text.Lts as lts
-use Rattle.filed.proofs.texts.check_text.Reads as check-text-reads
-use Rattle.filed.proofs.texts.verdict_text.Reads as verdict-text-reads
-use Rattle.text.proofs.refused_text.Reads as refused-text-reads
 
--- src/lib.rt:44:9
-refused-text-requires : tie.Need-refused-text-requires
-refused-text-requires c κs = search needs
-
--- src/lib.rt:44:9
-same-length : tie.Need-same-length
-same-length c = search needs
-
--- src/lib.rt:44:9
 returns : tie.Need-returns
-returns c = ?
+returns c =
+    let t = c .before .before in
+    text-of _ _ _ _ _ (long-file _ _ (t .before .before .if1 .taken)) (t .refused-text .ensures)
 
--- src/lib.rt:47:9
-refused-text-requires-2 : tie.Need-refused-text-requires-2
-refused-text-requires-2 c κs = search needs
-
--- src/lib.rt:47:9
-same-length-2 : tie.Need-same-length-2
-same-length-2 c = search needs
-
--- src/lib.rt:47:9
 returns-2 : tie.Need-returns-2
-returns-2 c = ?
+returns-2 c =
+    let t = c .before .before in
+    let f = t .before .before in
+    text-of _ _ _ _ _ (long-text _ _ (f .before .if1 .left) (f .if2 .taken)) (t .refused-text2 .ensures)
 
--- src/lib.rt:49:18
-check-text-requires : tie.Need-check-text-requires
-check-text-requires c κs = search needs
-
--- src/lib.rt:49:5
-verdict-text-requires : tie.Need-verdict-text-requires
-verdict-text-requires c κs = search needs
-
--- src/lib.rt:39:1
-same-length-3 : tie.Need-same-length-3
-same-length-3 c = search needs
-
--- src/lib.rt:39:1
 returns-3 : tie.Need-returns-3
-returns-3 c = ?
+returns-3 c =
+    let t = c .before .before in
+    let k = t .before .before in
+    let f = k .before in
+    text-of _ _ _ _ _ (ap lineOf (k .check-text .ensures) ∙ not-long _ _ (f .before .if1 .left) (f .if2 .left)) (t .verdict-text .ensures)
 
 pub filed-text-spec : {M : Type 1} → statement M
 filed-text-spec =
     tie.close
     (tie.spec
-    refused-text-requires
-    same-length
+    (λ c κs. search needs)
+    (λ c. search needs)
     returns
-    refused-text-requires-2
-    same-length-2
+    (λ c κs. search needs)
+    (λ c. search needs)
     returns-2
-    check-text-requires
-    verdict-text-requires
-    same-length-3
+    (λ c κs. search needs)
+    (λ c κs. search needs)
+    (λ c. search needs)
     returns-3)

@@ -1,46 +1,41 @@
+-- `against::against_account` meets its contract: another number of cells, or compared. Assumes nothing.
+use Prim.Native.Nat.{_*_}
 use borrow.Author.Needs.{needs}
+use mathlib.Core.Path.{refl, sym, _∙_}
+use native.Mathlib.Omega.{arith}
+use Rattle.law.specs.Numbers.{rowCells}
+use Rattle.rules.specs.Judge.{refuse}
+use Rattle.filed.specs.Filed.{verdictOnPaper}
+use Rattle.filed.proofs.Checks.{front-long, checked-count, checked-cells}
 use Rattle.filed.proofs.against.against_account.Statement.{statement}
 use Rattle.filed.proofs.against.against_account.Tie as tie
-use Rattle.filed.proofs.against.against_account.Reads as reads
-use Rattle.filed.proofs.against.against_account.Lts as lts
-use Rattle.filed.proofs.compare.verdict_of.Reads as verdict-of-reads
 
--- src/against.rt:45:13
-mul-n : tie.Need-mul-n
-mul-n c = search needs
-
--- src/against.rt:47:9
 returns : tie.Need-returns
-returns c = ?
+unfolding verdictOnPaper refuse
+returns c = let s = c .before .before .before .before in λ file w. checked-count file _ _ w (s .pre .0) _ _ (c .if1 .taken)
 
--- src/against.rt:51:22
-sub-verdict-of : tie.Need-sub-verdict-of
-sub-verdict-of c = search needs
-
--- src/against.rt:51:22
-part-verdict-of-start : tie.Need-part-verdict-of-start
-part-verdict-of-start c = search needs
-
--- src/against.rt:51:22
-part-verdict-of-end : tie.Need-part-verdict-of-end
-part-verdict-of-end c = search needs
-
--- src/against.rt:51:5
 verdict-of-requires : tie.Need-verdict-of-requires
-verdict-of-requires c κs = ?
+verdict-of-requires c κs =
+    let e = c .before .before .before .before .before in
+    let s = e .before .before .before .before in
+    let w = s .args .w in
+    let l = front-long (w .rows) (rowCells * w .answer .rows) (omega arith) in
+    (e .if1 .left ∙ sym l, (w .answer .rows, l))
 
--- src/against.rt:40:1
 returns-2 : tie.Need-returns-2
-returns-2 c = ?
+returns-2 c =
+    let e = c .before .before .before .before .before .before in
+    let s = e .before .before .before .before in
+    λ file w. checked-cells file _ _ w (s .pre .0) _ _ _ refl (e .if1 .left) _ (c .verdict-of .ensures)
 
 pub against-account-spec : {M : Type 1} → statement M
 against-account-spec =
     tie.close
     (tie.spec
-    mul-n
+    (λ c. search needs)
     returns
-    sub-verdict-of
-    part-verdict-of-start
-    part-verdict-of-end
+    (λ c. search needs)
+    (λ c. search needs)
+    (λ c. search needs)
     verdict-of-requires
     returns-2)

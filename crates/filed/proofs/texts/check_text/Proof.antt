@@ -1,74 +1,65 @@
+-- `texts::check_text` meets its contract: the file's own refusal, the text's, too many cells, or checked. Assumes nothing.
 use borrow.Author.Needs.{needs}
+use mathlib.Core.Path.{_∙_}
+use native.Mathlib.Omega.{arith}
+use Rattle.rules.specs.Judge.{refuse}
+use Rattle.filed.specs.Filed.{verdictOnPaper}
+use Rattle.filed.proofs.Checks.{rows-most, table-long, text-own, text-refused, text-long, text-checked}
 use Rattle.filed.proofs.texts.check_text.Statement.{statement}
 use Rattle.filed.proofs.texts.check_text.Tie as tie
-use Rattle.filed.proofs.texts.check_text.Reads as reads
-use Rattle.filed.proofs.texts.check_text.Lts as lts
-use Rattle.filed.proofs.against.account_of.Reads as account-of-reads
-use Rattle.filed.proofs.against.against_account.Reads as against-account-reads
-use Rattle.filed.proofs.against.own_refusal.Reads as own-refusal-reads
-use Rattle.filing.proofs.read_filing.Reads as read-filing-reads
 
--- src/texts.rt:16:9
-account-of-requires : tie.Need-account-of-requires
-account-of-requires c κs = search needs
-
--- src/texts.rt:19:9
-own-refusal-requires : tie.Need-own-refusal-requires
-own-refusal-requires c κs = search needs
-
--- src/texts.rt:19:9
 returns : tie.Need-returns
-returns c = ?
+returns c =
+    let w = c .before .before .before .before in
+    c .own-refusal .ensures ∙ text-own _ _ _ (w .account-of .ensures) _ (c .before .if1 .taken)
 
--- src/texts.rt:22:39
-slice-aggregate-read-filing : tie.Need-slice-aggregate-read-filing
-slice-aggregate-read-filing c = search needs
-
--- src/texts.rt:22:9
-read-filing-requires : tie.Need-read-filing-requires
-read-filing-requires c κs = search needs
-
--- src/texts.rt:24:9
 returns-2 : tie.Need-returns-2
-returns-2 c = ?
+unfolding verdictOnPaper
+returns-2 c =
+    let r = c .before .before .before in
+    let e = r .before .before in
+    let w = e .before .before .before in
+    text-refused _ _ _ (w .account-of .ensures) (e .if1 .left) _ _ _ _ (r .read-filing .ensures) (c .if2 .taken)
 
--- src/texts.rt:31:9
 returns-3 : tie.Need-returns-3
-returns-3 c = ?
+unfolding verdictOnPaper refuse
+returns-3 c =
+    let f = c .before in
+    let r = f .before .before .before in
+    let e = r .before .before in
+    let w = e .before .before .before in
+    text-long _ _ _ (w .account-of .ensures) (e .if1 .left) _ _ _ _ (r .read-filing .ensures) (f .if2 .left) (c .if3 .taken)
 
--- src/texts.rt:34:24
-sub-against-account : tie.Need-sub-against-account
-sub-against-account c = search needs
-
--- src/texts.rt:34:24
-part-against-account-start : tie.Need-part-against-account-start
-part-against-account-start c = search needs
-
--- src/texts.rt:34:24
-part-against-account-end : tie.Need-part-against-account-end
-part-against-account-end c = search needs
-
--- src/texts.rt:34:5
 against-account-requires : tie.Need-against-account-requires
-against-account-requires c κs = ?
+against-account-requires c κs =
+    let f = c .before .before .before .before .before in
+    let r = f .before .before .before in
+    let e = r .before .before in
+    let w = e .before .before .before .account-of .ensures in
+    (e .if1 .left, rows-most _ _ _ w (e .if1 .left), table-long _ _ _ w (e .if1 .left))
 
--- src/texts.rt:13:1
 returns-4 : tie.Need-returns-4
-returns-4 c = ?
+returns-4 c =
+    let else = c .before .before .before .before .before in
+    let f = else .before in
+    let r = f .before .before .before in
+    let e = r .before .before in
+    let w = e .before .before .before .account-of .ensures in
+    text-checked _ _ _ w (e .if1 .left) _ _ _ _ (r .read-filing .ensures) (f .if2 .left) (omega arith) _ (c .against-account .ensures _ w)
 
 pub check-text-spec : {M : Type 1} → statement M
 check-text-spec =
     tie.close
     (tie.spec
-    account-of-requires
-    own-refusal-requires
+    (λ c κs. search needs)
+    (λ c κs. search needs)
     returns
-    slice-aggregate-read-filing
-    read-filing-requires
+    (λ c. search needs)
+    (λ c κs. search needs)
     returns-2
     returns-3
-    sub-against-account
-    part-against-account-start
-    part-against-account-end
+    (λ c. search needs)
+    (λ c. search needs)
+    (λ c. search needs)
     against-account-requires
     returns-4)

@@ -1,78 +1,49 @@
+-- `texts::verdict_text` meets its contract, by the cases of a verdict. Assumes nothing.
 use borrow.Author.Needs.{needs}
+use mathlib.Core.Path.{sym, ap, _∙_}
+use Rattle.rules.specs.OnPaper.{OnPaper}
+use Rattle.rules.specs.Judge.{refuse}
+use Rattle.text.proofs.Texts.{text-as}
+use Rattle.filed.specs.Filed.{verdictOnPaper}
+use Rattle.filed.specs.Said.{lineBy, lineOf}
 use Rattle.filed.proofs.texts.verdict_text.Statement.{statement}
 use Rattle.filed.proofs.texts.verdict_text.Tie as tie
-use Rattle.filed.proofs.texts.verdict_text.Reads as reads
-use Rattle.filed.proofs.texts.verdict_text.Lts as lts
-use Rattle.text.proofs.refused_text.Reads as refused-text-reads
-use Rattle.text.proofs.wrong_text.Reads as wrong-text-reads
-use Rattle.text.proofs.yes_text.Reads as yes-text-reads
 
--- src/texts.rt:43:43
-enum-told : tie.Need-enum-told
-enum-told c = search needs
-
--- src/texts.rt:43:28
-yes-text-requires : tie.Need-yes-text-requires
-yes-text-requires c κs = search needs
-
--- src/texts.rt:44:24
-enum-known-v : tie.Need-enum-known-v
-enum-known-v c = search needs
-
--- src/texts.rt:44:39
-wrong-text-requires : tie.Need-wrong-text-requires
-wrong-text-requires c κs = search needs
-
--- src/texts.rt:45:26
-enum-known-v-2 : tie.Need-enum-known-v-2
-enum-known-v-2 c = search needs
-
--- src/texts.rt:45:57
-cast-refused-text : tie.Need-cast-refused-text
-cast-refused-text c = search needs
-
--- src/texts.rt:45:32
-refused-text-requires : tie.Need-refused-text-requires
-refused-text-requires c κs = search needs
-
--- src/texts.rt:39:1
-same-length : tie.Need-same-length
-same-length c = search needs
-
--- src/texts.rt:39:1
 returns : tie.Need-returns
-returns c = ?
+unfolding verdictOnPaper lineOf lineBy
+returns c =
+    let t = c .before .before in
+    let told = t .before .before .enum-told .given .1 in
+    text-as _ _ _ _ _ (simp told) (t .yes-text .ensures)
 
--- src/texts.rt:39:1
-same-length-2 : tie.Need-same-length-2
-same-length-2 c = search needs
-
--- src/texts.rt:39:1
 returns-2 : tie.Need-returns-2
-returns-2 c = ?
+unfolding verdictOnPaper lineOf lineBy
+returns-2 c =
+    let t = c .before .before in
+    let told = t .before .before .before .v .given .1 in
+    text-as _ _ _ _ _ (simp told) (t .wrong-text .ensures)
 
--- src/texts.rt:39:1
-same-length-3 : tie.Need-same-length-3
-same-length-3 c = search needs
-
--- src/texts.rt:39:1
 returns-3 : tie.Need-returns-3
-returns-3 c = ?
+unfolding verdictOnPaper lineOf lineBy refuse
+returns-3 c =
+    let t = c .before .before in
+    let told = t .before .before .before .before .v2 .given .1 in
+    text-as _ _ _ _ _ (simp told) (t .refused-text .ensures)
 
 pub verdict-text-spec : {M : Type 1} → statement M
 verdict-text-spec =
     tie.close
     (tie.spec
-    enum-told
-    yes-text-requires
-    enum-known-v
-    wrong-text-requires
-    enum-known-v-2
-    cast-refused-text
-    refused-text-requires
-    same-length
+    (λ c. search needs)
+    (λ c κs. search needs)
+    (λ c. search needs)
+    (λ c κs. search needs)
+    (λ c. search needs)
+    (λ c. search needs)
+    (λ c κs. search needs)
+    (λ c. search needs)
     returns
-    same-length-2
+    (λ c. search needs)
     returns-2
-    same-length-3
+    (λ c. search needs)
     returns-3)

@@ -1,0 +1,29 @@
+-- The line that is said of a filing's text: 13 comes first. Assumes nothing.
+use mathlib.Core.Path.{_≡_, refl, _∙_}
+use mathlib.Core.List.{List, []}
+use Prim.Native.Nat.{ℕ, _<_, _≤_}
+use lib.ListN.{length}
+use Rattle.law.specs.Words.{need, needAll}
+use Rattle.law.proofs.Tests.{need-le, need-not-le}
+use Rattle.rules.specs.Judge.{refuse}
+use Rattle.text.specs.Line.{refusedLine}
+use Rattle.text.specs.Text.{Text}
+use Rattle.text.proofs.Texts.{text-as, text-within}
+use Rattle.filed.specs.Said.{checkedText, lineOf, said}
+
+-- a text by other words for its bytes; what is counted stands in the buffer
+pub text-of : (xs ys old new : List ℕ) (r : ℕ) → xs ≡ ys → Text xs old new r → Text ys old new r × (r ≤ length new)
+text-of xs ys old new r e t = (text-as xs ys old new r e t, text-within xs old new r t)
+
+module _ (file text : List ℕ) where
+  pub long-file : 65_536 < length file → refusedLine (refuse 13 0) ≡ said file text
+  unfolding said needAll
+  long-file l = need-not-le _ _ (length file) 65_536 l
+
+  pub long-text : length file ≤ 65_536 → 65_536 < length text → refusedLine (refuse 13 0) ≡ said file text
+  unfolding said needAll
+  long-text f l = need-le _ _ _ (length file) 65_536 f (need-not-le _ _ (length text) 65_536 l)
+
+  pub not-long : length file ≤ 65_536 → length text ≤ 65_536 → lineOf (checkedText file text) ≡ said file text
+  unfolding said needAll
+  not-long f l = need-le _ _ _ (length file) 65_536 f (need-le _ _ _ (length text) 65_536 l refl)
