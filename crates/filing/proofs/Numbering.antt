@@ -1,29 +1,18 @@
 -- The numbers of a line, read one by one: what the loop over them holds, and what a number adds to it. Assumes nothing.
 use mathlib.Core.Path.{_≡_, refl, sym, ap, subst, _∙_}
-use mathlib.Core.Bool.{Bool, true, false, _&&_}
+use mathlib.Core.Bool.{Bool, true, false, not, _&&_}
 use mathlib.Core.List.{List, [], _∷_, _++_, append-nil}
 use Prim.Native.Nat.{ℕ, suc, _+_, _-_, _*_, _<_, _≤_, min}
 use native.Mathlib.Omega.{arith}
 use lib.Dec.{ltb}
 use lib.ListN.{length, take, drop, set, length-set}
-use borrow.Author.Tests.{ltb-true, ltb-false, lt-ltb, le-ltb}
 use Rattle.law.specs.Words.{need, pick}
 use Rattle.law.specs.Digits.{lineFeed, upTo, past, value, numberTo}
 use Rattle.law.proofs.Tests.{both-true}
 use Rattle.law.proofs.Over.{gather-more}
 use Rattle.filing.specs.Filing.{space, oneMore, numbersIn, valuesIn, filedLimit, allFit}
-use Rattle.filing.specs.Parts.{Next, Lined}
-
--- a number that is kept up to the limit is in its range where it is itself
-kept-fits : (v x : ℕ) → v ≡ min x filedLimit → ltb v filedLimit ≡ ltb x filedLimit
-kept-fits v x e = go (ltb x filedLimit) refl
-  where
-    go : (t : Bool) → ltb x filedLimit ≡ t → ltb v filedLimit ≡ t
-    go true q = let l = ltb-true x filedLimit q in lt-ltb v filedLimit (omega arith)
-    go false q = let l = ltb-false x filedLimit q in le-ltb v filedLimit (omega arith)
-
-kept-is : (v x : ℕ) → v ≡ min x filedLimit → ltb v filedLimit ≡ true → x ≡ v
-kept-is v x e q = let l = ltb-true v filedLimit q in omega arith
+use Rattle.filing.specs.Parts.{keptOf, Next, Lined}
+use Rattle.filing.proofs.Kept.{kept-fits, kept-is}
 
 and-on : (r s t u : Bool) → s ≡ u → (r && (u && t)) ≡ ((r && s) && t)
 and-on true s t u e = ap (λ (b : Bool). b && t) (sym e)
@@ -86,7 +75,7 @@ module _ (text : List ℕ) (from most : ℕ) (cells : List ℕ) (at count : ℕ)
       let z : p .left ≡ 0 = omega (arith, p .all) in
       none-lined text from most cells (p .none (ap (λ (k : ℕ). numbersIn k (drop at text)) z))
 
-  module _ (l : count < most) (v end : ℕ) (last : Bool) (n : Next text at v end last) where
+  module _ (l : count < most) (v : ℕ) (over : Bool) (end : ℕ) (last : Bool) (n : Next text at (keptOf v over) end last) where
     abbrev s : List ℕ
     s = drop at text
 
@@ -104,49 +93,49 @@ module _ (text : List ℕ) (from most : ℕ) (cells : List ℕ) (at count : ℕ)
     left-numbers r e = ap (λ (k : ℕ). numbersIn k s) one ∙ e
 
     -- one number more in the cells, of a value that is kept
-    module _ (x : ℕ) (r : List ℕ) (is : v ≡ min x filedLimit) (e : valuesIn (suc m) s ≡ x ∷ r) where
-      fit-on : allFit (valuesIn most (drop from text)) ≡ ((fits && ltb v filedLimit) && allFit r)
+    module _ (b : v < filedLimit) (x : ℕ) (r : List ℕ) (is : keptOf v over ≡ min x filedLimit) (e : valuesIn (suc m) s ≡ x ∷ r) where
+      fit-on : allFit (valuesIn most (drop from text)) ≡ ((fits && not over) && allFit r)
       unfolding allFit
       fit-on =
           p .fit ∙ ap (λ (t : List ℕ). fits && allFit t) (left-values (x ∷ r) e)
-          ∙ and-on fits (ltb v filedLimit) (allFit r) (ltb x filedLimit) (kept-fits v x is)
+          ∙ and-on fits (not over) (allFit r) (ltb x filedLimit) (kept-fits v over x b is)
 
-      values-on : (fits && ltb v filedLimit) ≡ true → valuesIn most (drop from text) ≡ take (count + 1) (set cells count v) ++ r
+      values-on : (fits && not over) ≡ true → valuesIn most (drop from text) ≡ take (count + 1) (set cells count v) ++ r
       values-on q =
-          let k = both-true fits (ltb v filedLimit) q in
-          let first : valuesIn (p .left) s ≡ v ∷ r = left-values (x ∷ r) e ∙ ap (λ (y : ℕ). y ∷ r) (kept-is v x is (k .1)) in
+          let k = both-true fits (not over) q in
+          let first : valuesIn (p .left) s ≡ v ∷ r = left-values (x ∷ r) e ∙ ap (λ (y : ℕ). y ∷ r) (kept-is v over x b is (k .1)) in
           p .values (k .0) ∙ sym (gather-more cells (valuesIn (p .left) s) r count v (omega (arith, p .long)) first)
 
     pub malformed : end ≡ 0 → Lined text from most cells 0 0 false
     unfolding pick
-    malformed z = none-lined text from most cells (p .none (left-numbers 0 (go last (subst (λ (e : ℕ). Next text at v e last) z n))))
+    malformed z = none-lined text from most cells (p .none (left-numbers 0 (go last (subst (λ (e : ℕ). Next text at (keptOf v over) e last) z n))))
       where
-        go : (b : Bool) → Next text at v 0 b → numbersIn (suc m) s ≡ 0
+        go : (b : Bool) → Next text at (keptOf v over) 0 b → numbersIn (suc m) s ≡ 0
         go true x = none-first m s (x .lined .none refl) (x .spaced .none refl)
         go false x = none-first m s (x .lined .none refl) (x .spaced .none refl)
 
-    module _ (g : end ≡ 0 → ⊥) where
-      pub last-lined : last ≡ true → Lined text from most (set cells count v) (count + 1) end (fits && ltb v filedLimit)
+    module _ (b : v < filedLimit) (g : end ≡ 0 → ⊥) where
+      pub last-lined : last ≡ true → Lined text from most (set cells count v) (count + 1) end (fits && not over)
       unfolding pick allFit
       last-lined t =
-          let f = subst (Next text at v end) t n .lined .some (omega arith) in
+          let f = subst (Next text at (keptOf v over) end) t n .lined .some (omega arith) in
           let h = last-first m s (f .0) in
           record {
             counts = sym (p .some 0 (left-numbers 1 (h .0)));
             few = omega arith;
             within = f .1 .within;
             found = λ _. record {
-              fit = sym (fit-on (value (upTo lineFeed s)) [] (f .1 .is) (h .1) ∙ and-true _);
-              values = λ q. sym (values-on (value (upTo lineFeed s)) [] (f .1 .is) (h .1) q ∙ append-nil _);
+              fit = sym (fit-on b (value (upTo lineFeed s)) [] (f .1 .is) (h .1) ∙ and-true _);
+              values = λ q. sym (values-on b (value (upTo lineFeed s)) [] (f .1 .is) (h .1) q ∙ append-nil _);
               behind = f .1 .behind ∙ sym (p .behind);
               on = omega (arith, p .on, f .1 .on);
             };
           }
 
-      pub numbering-on : last ≡ false → Numbering text from most (set cells count v) end (count + 1) (fits && ltb v filedLimit)
+      pub numbering-on : last ≡ false → Numbering text from most (set cells count v) end (count + 1) (fits && not over)
       unfolding pick oneMore
       numbering-on t =
-          let x = subst (Next text at v end) t n in
+          let x = subst (Next text at (keptOf v over) end) t n in
           let f = x .spaced .some (omega arith) in
           let h = more-first m s (x .lined .none refl) (f .0) in
           let numbers : numbersIn (p .left) s ≡ oneMore (numbersIn m (drop end text)) =
@@ -161,7 +150,7 @@ module _ (text : List ℕ) (from most : ℕ) (cells : List ℕ) (at count : ℕ)
             on = omega (arith, p .on, f .1 .on);
             none = λ e. p .none (numbers ∙ ap oneMore e);
             some = λ k e. p .some (suc k) (numbers ∙ ap oneMore e) ∙ (let z : count + suc (suc k) ≡ count + 1 + suc k = omega arith in z);
-            fit = fit-on (value (upTo space s)) (valuesIn m (drop end text)) (f .1 .is) vals;
-            values = values-on (value (upTo space s)) (valuesIn m (drop end text)) (f .1 .is) vals;
+            fit = fit-on b (value (upTo space s)) (valuesIn m (drop end text)) (f .1 .is) vals;
+            values = values-on b (value (upTo space s)) (valuesIn m (drop end text)) (f .1 .is) vals;
             behind = p .behind ∙ x .line (omega arith) refl;
           }

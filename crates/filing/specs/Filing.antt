@@ -37,9 +37,9 @@ unfoldable pub valuesIn : ℕ → List ℕ → List ℕ
 valuesIn zero s = []
 valuesIn (suc n) s = pick (numberTo lineFeed s) (value (upTo lineFeed s) ∷ []) (value (upTo space s) ∷ valuesIn n (past space s))
 
--- a number that a filing may have is below this: it has at most 19 digits, leading zeros aside, and fits a cell
+-- a number that a filing may have is below this, so that it fits a cell
 abbrev pub filedLimit : ℕ
-filedLimit = 10_000_000_000_000_000_000
+filedLimit = 18_446_744_073_709_551_616
 
 unfoldable pub allFit : List ℕ → Bool
 allFit [] = true

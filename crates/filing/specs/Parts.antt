@@ -11,6 +11,10 @@ use Rattle.law.specs.Digited.{Numbered}
 use Rattle.filing.specs.declared.Filing.{Filing}
 use Rattle.filing.specs.Filing.{space, filedLimit, numbersIn, valuesIn, allFit, isRow, Read, stopped, totalsFrom}
 
+-- a number that the code keeps up to the limit in two parts: its value, and whether it is over, where the value says nothing
+abbrev pub keptOf : ℕ → Bool → ℕ
+keptOf value over = pick over filedLimit value
+
 -- a number of a line, with LF behind the last and a space behind another; where there is none, the end is 0
 pub record Next (text : List ℕ) (from kept end : ℕ) (last : Bool) : Type 0 where
   pub lined : Numbered filedLimit text from lineFeed kept (pick last end 0)

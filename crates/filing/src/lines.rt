@@ -19,8 +19,6 @@ const NONE: Line = Line {
     fits: false,
 };
 
-const LIMIT: u64 = 10_000_000_000_000_000_000;
-
 // Whether a word stands at a place of the text.
 pub fn starts_with(text: &[u8], from: usize, word: &[u8]) -> bool
     requires { ⌜ from ≤ length (now text) ⌝ }
@@ -54,7 +52,7 @@ pub fn numbers_at(text: &[u8], from: usize, cells: &mut [u64]) -> Line
         }
         cells[count] = n.value;
         count += 1;
-        fits = fits & (n.value < LIMIT);
+        fits = fits & !n.over;
         if n.last {
             return Line {
                 count,

@@ -27,7 +27,7 @@ returns c =
     let n = c .before .before in
     let i = n .before in
     let k = i .before .loop in
-    malformed _ _ _ _ _ _ _ (k .inv) (omega (arith, i .loop-test .taken, k .inv .long)) _ _ _ (n .next-number .ensures) (c .if1 .taken)
+    malformed _ _ _ _ _ _ _ (k .inv) (omega (arith, i .loop-test .taken, k .inv .long)) _ _ _ _ (n .next-number .ensures) (c .if1 .taken)
 
 same-length-2 : tie.Need-same-length-2 Inv-loop μ-loop
 same-length-2 c =
@@ -40,7 +40,8 @@ returns-2 c =
     let n = e .before .before in
     let i = n .before in
     let k = i .before .loop in
-    last-lined _ _ _ _ _ _ _ (k .inv) (omega (arith, i .loop-test .taken, k .inv .long)) _ _ _ (n .next-number .ensures) (e .if1 .left) (c .if2 .taken)
+    last-lined _ _ _ _ _ _ _ (k .inv) (omega (arith, i .loop-test .taken, k .inv .long)) _ _ _ _ (n .next-number .ensures) (omega arith)
+    (e .if1 .left) (c .if2 .taken)
 
 loop-less : tie.Need-loop-less Inv-loop μ-loop
 loop-less c =
@@ -53,7 +54,8 @@ loop-again c =
     let n = e .before .before in
     let i = n .before in
     let k = i .before .loop in
-    numbering-on _ _ _ _ _ _ _ (k .inv) (omega (arith, i .loop-test .taken, k .inv .long)) _ _ _ (n .next-number .ensures) (e .if1 .left) (c .if2 .left)
+    numbering-on _ _ _ _ _ _ _ (k .inv) (omega (arith, i .loop-test .taken, k .inv .long)) _ _ _ _ (n .next-number .ensures) (omega arith)
+    (e .if1 .left) (c .if2 .left)
 
 same-length-3 : tie.Need-same-length-3 Inv-loop μ-loop
 same-length-3 c = c .before .loop .inv .long
