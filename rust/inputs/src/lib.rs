@@ -20,6 +20,8 @@ mod export_lines;
 pub mod export_vectors;
 mod field;
 pub mod figures;
+pub mod filing_vectors;
+mod frames;
 mod hours;
 mod outage;
 mod outcome;

@@ -1,4 +1,4 @@
-//! The quarter account of document 01 with requests A1 to A3 and A5 of document 02, written from the documents and not
+//! The quarter account of document 01 with requests A1 to A3, A5 and A6 of document 02, written from the documents and not
 //! from the proved code.
 //!
 //! It shares no code with the proved library. The comparison tests hold the two against each other, and the benchmark
@@ -6,6 +6,9 @@
 #![forbid(unsafe_code)]
 
 mod account;
+mod digits;
+mod filed_text;
+mod filing;
 mod fill;
 mod grams;
 mod historian;
@@ -22,10 +25,11 @@ mod tables;
 mod water;
 
 pub use account::{Answer, account};
+pub use filing::{Checked, check};
 pub use historian::{Imported, import_days};
 pub use hours::HOURS;
 pub use panel::{Hour, Panel};
-pub use printed::{printed, text};
+pub use printed::{printed, printed_check, text};
 pub use reading::{concentration, flow};
 pub use refusal::Refusal;
 pub use survey::governing_survey;

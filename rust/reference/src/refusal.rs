@@ -1,6 +1,7 @@
 //! The numbers that say no.
 
-/// A reason to refuse; its discriminant is the number of document 01, from 14 on of A1, A3 and A5. 3 is not given.
+/// A reason to refuse; its discriminant is the number of document 01, from 14 on of A1, A3, A5 and A6. 3 is not
+/// given.
 #[derive(Clone, Copy, Debug, PartialEq, Eq)]
 #[repr(u32)]
 pub enum Refusal {
@@ -22,12 +23,14 @@ pub enum Refusal {
     Fuel = 16,
     PastPeriod = 17,
     NoMethod = 18,
-    /// Malformed or misplaced, or the last one of a day that is not finished.
+    /// Malformed or misplaced, or the last one of a day that is not finished. Of a filing too.
     TextLine = 19,
-    /// A number out of range, or a day past 91.
+    /// A number out of range, or a day past 91. Of a filing too.
     TextRange = 20,
     /// For a day's record.
     FewBytes = 21,
+    /// Of filed cells, which are seven for each line.
+    RowCount = 22,
 }
 
 impl Refusal {
