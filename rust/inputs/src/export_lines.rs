@@ -105,7 +105,7 @@ pub fn day_too_many(hours: usize, rng: &mut Rng) -> Vec<Line> {
 }
 
 /// Leading zeros: mostly none, at times more than any number has digits.
-fn zeros(rng: &mut Rng) -> String {
+pub fn zeros(rng: &mut Rng) -> String {
     "0".repeat(match rng.below(1_000) {
         0 => rng.between(5, 400),
         1..=60 => rng.between(1, 4),

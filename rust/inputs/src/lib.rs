@@ -1,7 +1,7 @@
 //! Inputs for the comparison tests, the valgrind run and the benchmark, all from fixed seeds.
 //!
-//! It knows the shape of a record file and of a text export and the ranges of their fields, and nothing of how an
-//! account is computed.
+//! It knows the shape of a record file, of a text export and of a filed text and the ranges of their fields, and nothing
+//! of how an account is computed: what is filed is made by the account call that it is handed.
 #![forbid(unsafe_code)]
 
 mod case;
@@ -20,9 +20,16 @@ mod export_lines;
 pub mod export_vectors;
 mod field;
 pub mod figures;
+mod filed_lines;
+mod filed_text;
+mod filed_text_census;
+mod filing;
+mod filing_census;
+mod filing_done;
 pub mod filing_vectors;
 mod frames;
 mod hours;
+mod misprint;
 mod outage;
 mod outcome;
 mod panel;
@@ -44,6 +51,12 @@ pub use census::{Census, Fill};
 pub use damage_export::Damage;
 pub use export::{Damaged, Export};
 pub use export_census::{ExportCensus, Order, Room};
+pub use filed_text::{FiledText, Misprinted};
+pub use filed_text_census::{FiledTextCensus, Met, Printed};
+pub use filing::{Account, Filing};
+pub use filing_census::FilingCensus;
+pub use filing_done::{Change, Done, RowAt};
+pub use misprint::Misprint;
 pub use outcome::Outcome;
 pub use panel::Step;
 pub use rng::Rng;
