@@ -7,6 +7,7 @@
 
 mod account;
 mod feed;
+mod filing;
 mod header;
 mod import;
 mod panel;
@@ -15,6 +16,9 @@ mod survey;
 
 pub use account::{AccountCall, compare_accounts};
 pub use feed::{Call, feed};
+pub use filing::{
+    compare_filed_texts, compare_filings, filing_of_cells, generate_filed_text, generate_filing, right_filing,
+};
 pub use header::HEADER;
 pub use import::{Import, ImportCall, compare_imports};
 pub use panel::{Stepped, compare_steps, stepped};

@@ -4,9 +4,10 @@ use std::path::Path;
 use std::time::Duration;
 
 use compare::{
-    AccountCall, HEADER, ImportCall, Program, compare_accounts, compare_imports, compare_lookups, compare_steps,
+    AccountCall, HEADER, ImportCall, Program, compare_accounts, compare_filed_texts, compare_filings, compare_imports,
+    compare_lookups, compare_steps, right_filing,
 };
-use inputs::{Lookup, Rng, Step, sweep};
+use inputs::{FiledText, Lookup, Rng, Step, sweep};
 
 const SEED: u64 = 0x0d0a_29e2_0006;
 const CALLS: usize = 20;
@@ -48,11 +49,25 @@ fn imports(program: &Program) -> Result<u64, String> {
     compare_imports(program, calls).map(|census| census.inputs)
 }
 
+/// Checks of what is right for the example.
+fn filings(program: &Program) -> Result<u64, String> {
+    let filings = (0..CALLS).map(|_| right_filing(inputs::figures::example()));
+    compare_filings(program, filings).map(|census| census.inputs)
+}
+
+/// Checks of a text that is wrong at the example's totals, for which a line of ten bytes is printed.
+fn filed_texts(program: &Program) -> Result<u64, String> {
+    let text = b"1 2 1 126500 4 1 3\ntotal 0 126500 0 1 0\n";
+    let texts = (0..CALLS).map(|_| FiledText::of_text(right_filing(inputs::figures::example()), text.to_vec()));
+    compare_filed_texts(program, texts).map(|census| census.inputs)
+}
+
 #[test]
 fn passes_answers_of_the_reference() {
     let program = stand_in(&[]);
     let of_each = [accounts(&program), steps(&program), lookups(&program), imports(&program)];
     assert_eq!(of_each, [const { Ok(CALLS as u64) }; 4]);
+    assert_eq!([filings(&program), filed_texts(&program)], [const { Ok(CALLS as u64) }; 2]);
 }
 
 /// The first cell and the last one of each part of an answer, and the cells about the quarter's end.
@@ -91,6 +106,23 @@ fn fails_on_a_changed_import() {
     }
 }
 
+/// Each byte of the three cells and of the line; where the line's count is another, it is found as well.
+#[test]
+fn fails_on_a_changed_check() {
+    for byte in 0..24 {
+        let why = filings(&flip(byte % CALLS, byte)).expect_err("a changed byte is found");
+        assert!(why.contains("was to be"), "byte {byte}: {why}");
+    }
+    for byte in 4..14 {
+        let why = filed_texts(&flip(byte % CALLS, byte)).expect_err("a changed byte is found");
+        assert!(why.contains("was to be"), "byte {byte}: {why}");
+    }
+    for byte in 0..4 {
+        let why = filed_texts(&flip(byte, byte)).expect_err("a changed count is found");
+        assert!(why.contains("was to be") || why.contains("can be read"), "byte {byte}: {why}");
+    }
+}
+
 #[test]
 fn fails_where_the_program_does() {
     let why = accounts(&stand_in(&["cut", "3"])).expect_err("answer 3 is cut");
@@ -117,7 +149,7 @@ fn says_how_to_get_the_program() {
 fn has_a_header_of_this_version() {
     assert!(HEADER.contains(&format!("#define DOARPEZWIM_VERSION \"{}\"", env!("CARGO_PKG_VERSION"))));
     let (_, refusals) = HEADER.split_once("enum doarpezwim_refusal {").expect("the header has the numbers");
-    let given = (0..=21).filter(|&number| number != 3);
+    let given = (0..=22).filter(|&number| number != 3);
     let mut places = given.map(|number| refusals.find(&format!(" = {number},")).expect("each number is named"));
     assert!(places.by_ref().is_sorted());
 }

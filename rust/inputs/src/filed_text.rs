@@ -51,6 +51,11 @@ impl FiledText {
         }
     }
 
+    /// The same filing with any text.
+    pub fn of_text(filing: Filing, text: Vec<u8>) -> Self {
+        FiledText { filing, text, misprints: None }
+    }
+
     /// Outcome, then row and field or number and place, if what was done to the text is known or does not matter.
     pub fn answer(&self) -> Option<[u64; 3]> {
         if self.is_too_long() {
@@ -189,7 +194,7 @@ impl FiledText {
     fn with_bytes_damaged(filing: Filing, rng: &mut Rng) -> Self {
         let mut filed = FiledText::of_filing(filing, rng);
         rng.pick(&damage_bytes::FAULTS)(&mut filed.text, rng);
-        FiledText { misprints: None, ..filed }
+        FiledText::of_text(filed.filing, filed.text)
     }
 }
 

@@ -70,6 +70,21 @@ fn import([length, room, seed, ..]: [u32; 5], input: &mut impl Read) -> io::Resu
     Ok(cells.chain(import.records).collect())
 }
 
+fn check([length, cells, ..]: [u32; 5], input: &mut impl Read) -> io::Result<Vec<u8>> {
+    let file = bytes(length, input)?;
+    let cells = bytes(8 * (cells + 5), input)?;
+    let cells: Vec<u64> = cells.as_chunks().0.iter().copied().map(u64::from_le_bytes).collect();
+    let (rows, totals) = cells.split_last_chunk().expect("five totals were read");
+    let answer = reference::check(&file, rows, totals).cells();
+    Ok(answer.iter().flat_map(|cell| cell.to_le_bytes()).collect())
+}
+
+fn check_text([of_file, of_text, ..]: [u32; 5], input: &mut impl Read) -> io::Result<Vec<u8>> {
+    let (file, text) = (bytes(of_file, input)?, bytes(of_text, input)?);
+    let printed = reference::printed_check(&file, &text);
+    Ok([&(printed.len() as u32).to_le_bytes(), printed.as_bytes()].concat())
+}
+
 /// The six numbers of the next header; `None` at the end of the input.
 fn header(input: &mut impl Read) -> io::Result<Option<[u32; 6]>> {
     let mut bytes = [[0; 4]; 6];
@@ -90,6 +105,8 @@ fn answer_all(fault: Fault) -> io::Result<()> {
             2 => panel(of_call, &mut input)?,
             3 => survey(of_call, &mut input)?,
             4 => import(of_call, &mut input)?,
+            5 => check(of_call, &mut input)?,
+            6 => check_text(of_call, &mut input)?,
             _ => return Err(io::Error::other("a frame of no call")),
         };
         match fault {
