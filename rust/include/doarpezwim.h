@@ -1,8 +1,8 @@
 /*
- * Doarpezwim: the quarter account of what stacks and outfalls emit, by document 01 with requests A1 to A3, and the
- * import of the historian's text export, by request A5.
+ * Doarpezwim: the quarter account of what stacks and outfalls emit, by document 01 with requests A1 to A3, the import
+ * of the historian's text export, by request A5, and the check of what a plant has filed, by request A6.
  *
- * The four functions are proved. For every input that keeps to the rules below they end, read and write nothing but
+ * The five functions are proved. For every input that keeps to the rules below they end, read and write nothing but
  * what they are lent, and answer what the document says. They keep no state, allocate nothing and may be called from
  * several threads at once, each with slices of its own. They are compiled for Linux on x86-64, in libdoarpezwim.a.
  *
@@ -20,9 +20,9 @@ extern "C" {
 #endif
 
 #define DOARPEZWIM_VERSION_MAJOR 0
-#define DOARPEZWIM_VERSION_MINOR 5
+#define DOARPEZWIM_VERSION_MINOR 6
 #define DOARPEZWIM_VERSION_PATCH 0
-#define DOARPEZWIM_VERSION "0.5.0"
+#define DOARPEZWIM_VERSION "0.6.0"
 
 /* Cells that each work slice has to have: the hours of 92 days, also for a file of outfalls. */
 #define DOARPEZWIM_WORK_CELLS 2208
@@ -39,6 +39,10 @@ extern "C" {
 #define DOARPEZWIM_MOST_DAYS 92
 /* Cells of an import's answer, as enum doarpezwim_import_cell names them. */
 #define DOARPEZWIM_IMPORT_CELLS 3
+/* Totals that are filed, one for each pollutant. */
+#define DOARPEZWIM_TOTALS 5
+/* Cells of a check's answer, as enum doarpezwim_check_cell names them. */
+#define DOARPEZWIM_CHECK_CELLS 3
 
 /*
  * Bytes of stack that a call needs: doarpezwim_account takes 33,024 and what it calls 112 more; the import takes 424, the
@@ -71,10 +75,12 @@ enum doarpezwim_refusal {
     /* Of an outfall a survey's day. */
     DOARPEZWIM_SURVEY_HOUR = 17,
     DOARPEZWIM_NO_METHOD = 18,
-    /* 19 to 21 are of doarpezwim_import, and name a line of its text. */
+    /* 19 to 21 are of doarpezwim_import, and name a line of its text. The program `checker` gives 19 and 20 as well. */
     DOARPEZWIM_TEXT_LINE = 19,
     DOARPEZWIM_TEXT_RANGE = 20,
     DOARPEZWIM_FEW_RECORD_BYTES = 21,
+    /* Of doarpezwim_check. */
+    DOARPEZWIM_ROW_COUNT = 22,
     /* Of doarpezwim_panel_hour, a wrong state: the kind of hour does not exist. The number is a mask's. */
     DOARPEZWIM_UNKNOWN_KIND = 15
 };
@@ -104,6 +110,7 @@ static inline const char *doarpezwim_refusal_text(uint32_t number)
     case 19: return "a line is malformed or not the hour that is due, or the last day is not finished";
     case 20: return "a concentration is over 10000, a flow is over 5000000, or a day is past 91";
     case 21: return "fewer than 205 bytes a day were lent for records";
+    case 22: return "the filed row cells are not 7 for each line of the file";
     default: return "an unknown refusal";
     }
 }
@@ -213,6 +220,51 @@ enum doarpezwim_import_cell {
  */
 uint32_t doarpezwim_import(const uint8_t *text, size_t text_len, uint8_t *records, size_t records_len,
                            uint64_t answer[DOARPEZWIM_IMPORT_CELLS]);
+
+/* What a check finds. */
+enum doarpezwim_check_outcome { DOARPEZWIM_AGREES = 0, DOARPEZWIM_WRONG = 1, DOARPEZWIM_REFUSED = 2 };
+
+/* The cells of a check's answer; the second and the third are 0 if the filing agrees. */
+enum doarpezwim_check_cell {
+    /* One of enum doarpezwim_check_outcome. */
+    DOARPEZWIM_CHECK_OUTCOME = 0,
+    /* Of a wrong cell, both counted from 0: the totals are the row after the last. */
+    DOARPEZWIM_CHECK_ROW = 1,
+    DOARPEZWIM_CHECK_FIELD = 2,
+    /* Of a refusal. */
+    DOARPEZWIM_CHECK_NUMBER = 1,
+    DOARPEZWIM_CHECK_PLACE = 2
+};
+
+/* A field by its row and place, where the file has lines lines: of a row its cell, of the totals the pollutant. */
+static inline const char *doarpezwim_field_text(uint64_t lines, uint64_t row, uint64_t field)
+{
+    static const char *const of_row[DOARPEZWIM_ROW_CELLS] = {
+        "stack or outfall", "pollutant", "method", "grams", "running", "missing", "first missing"
+    };
+    static const char *const of_totals[DOARPEZWIM_TOTALS] = {
+        "sulphur dioxide", "nitrogen oxides", "dust", "chemical oxygen demand", "ammonia nitrogen"
+    };
+    if (row < lines && field < DOARPEZWIM_ROW_CELLS) {
+        return of_row[field];
+    }
+    return row == lines && field < DOARPEZWIM_TOTALS ? of_totals[field] : "no field";
+}
+
+/*
+ * Checks the rows and totals that a plant has filed for a record file of any length. Nothing is lent but the answer.
+ *
+ * rows: what was filed as rows, seven cells for each line of the file, in the file's order, as enum doarpezwim_row_cell
+ * names them. totals: the grams filed of sulphur dioxide, nitrogen oxides, dust, chemical oxygen demand and ammonia
+ * nitrogen. Any number may stand in any cell.
+ *
+ * answer: the outcome, which is returned as well, and two cells more. It is DOARPEZWIM_AGREES, with 0 and 0, exactly
+ * when the rows and totals are those that doarpezwim_account states. It is DOARPEZWIM_WRONG with the row and the field
+ * of the first wrong cell, by row and then by field. It is DOARPEZWIM_REFUSED with number and place: those that
+ * doarpezwim_account refuses the file with, but never 8 or 9; else 22 with place 0 if rows_len is not 7 for each line.
+ */
+uint32_t doarpezwim_check(const uint8_t *file, size_t file_len, const uint64_t *rows, size_t rows_len,
+                          const uint64_t totals[DOARPEZWIM_TOTALS], uint64_t answer[DOARPEZWIM_CHECK_CELLS]);
 
 #ifdef __cplusplus
 }

@@ -2,7 +2,7 @@
 
 use std::fmt;
 
-use crate::{ANSWER_CELLS, MOST_LINES, Pollutant, ROW_CELLS, Refusal, Row, WORK_CELLS, ffi};
+use crate::{ANSWER_CELLS, MOST_LINES, Pollutant, ROW_CELLS, Refusal, Row, TOTALS, WORK_CELLS, ffi};
 
 /// Grams of each pollutant, over all rows; 0 of one that no row has.
 #[derive(Clone, Copy, Debug, Default, PartialEq, Eq, Hash)]
@@ -30,6 +30,20 @@ impl Totals {
             Pollutant::ChemicalOxygenDemand => self.chemical_oxygen_demand,
             Pollutant::AmmoniaNitrogen => self.ammonia_nitrogen,
         }
+    }
+
+    /// The grams of all pollutants, in the order of [`Pollutant::ALL`].
+    #[must_use]
+    pub fn cells(&self) -> [u64; TOTALS] {
+        Pollutant::ALL.map(|pollutant| self.of(pollutant))
+    }
+}
+
+/// Grams in the order of [`Pollutant::ALL`].
+impl From<[u64; TOTALS]> for Totals {
+    fn from(cells: [u64; TOTALS]) -> Self {
+        let [sulphur_dioxide, nitrogen_oxides, dust, chemical_oxygen_demand, ammonia_nitrogen] = cells;
+        Totals { sulphur_dioxide, nitrogen_oxides, dust, chemical_oxygen_demand, ammonia_nitrogen }
     }
 }
 
@@ -156,12 +170,11 @@ pub fn account_into<'a>(
             &mut answer,
         )
     };
-    let [_, place, count, sulphur_dioxide, nitrogen_oxides, dust, chemical_oxygen_demand, ammonia_nitrogen] = answer;
+    let [_, place, count, totals @ ..] = answer;
     if number != 0 {
         return Err(Refusal::of_account(number, place as usize));
     }
     // As many rows were written as there are lines, and there was room for them.
     let cells = &rows.as_chunks().0[..count as usize];
-    let totals = Totals { sulphur_dioxide, nitrogen_oxides, dust, chemical_oxygen_demand, ammonia_nitrogen };
-    Ok(Stated { cells, totals })
+    Ok(Stated { cells, totals: totals.into() })
 }

@@ -3,7 +3,7 @@
 //! `include/doarpezwim.h` says what each call takes and answers. No pointer is null, each is aligned for its type, a
 //! length counts elements, and what is written to overlaps no other argument.
 
-use crate::{ANSWER_CELLS, IMPORT_CELLS};
+use crate::{ANSWER_CELLS, CHECK_CELLS, IMPORT_CELLS, TOTALS};
 
 unsafe extern "C" {
     /// The call behind [`account_into`](crate::account_into); returns the refusal number, or 0.
@@ -60,5 +60,18 @@ unsafe extern "C" {
         records: *mut u8,
         records_len: usize,
         answer: *mut [u64; IMPORT_CELLS],
+    ) -> u32;
+
+    /// The call behind [`check`](crate::check); returns the outcome: 0 it agrees, 1 a cell is wrong, 2 it is refused.
+    ///
+    /// # Safety
+    /// Each slice's pointer is followed by its length, and the module's rules hold.
+    pub fn doarpezwim_check(
+        file: *const u8,
+        file_len: usize,
+        rows: *const u64,
+        rows_len: usize,
+        totals: *const [u64; TOTALS],
+        answer: *mut [u64; CHECK_CELLS],
     ) -> u32;
 }

@@ -13,15 +13,16 @@
 //!
 //! [`account_into`] is the same call over slices that the caller lends, [`Panel`] keeps a running total of a stack hour
 //! by hour, and [`governing_survey`] finds the survey that counts at an hour. [`import_days`] writes the day records of
-//! a historian's text export.
+//! a historian's text export, and [`check`] says whether what a plant has filed is what its file gives.
 //!
-//! The calls are proved in Rattle and linked from a static archive. They answer what document 01 with requests A1 to A3
-//! and A5 says for every input, read and write nothing but what they are lent, allocate nothing and keep no state. This
+//! The calls are proved in Rattle and linked from a static archive. They answer what document 01 with requests A1 to A3,
+//! A5 and A6 says for every input, read and write nothing but what they are lent, allocate nothing and keep no state. This
 //! crate adds types, and the borrow rules that the C interface cannot state; it is not proved itself. A call takes
 //! about 32 KB of stack.
 #![warn(missing_docs)]
 
 mod account;
+mod check;
 pub mod ffi;
 mod import;
 mod panel;
@@ -30,6 +31,7 @@ mod row;
 mod survey;
 
 pub use account::{Account, Stated, Totals, account, account_into};
+pub use check::{CheckError, Field, check};
 pub use import::import_days;
 pub use panel::{Hour, Panel};
 pub use refusal::Refusal;
@@ -50,3 +52,7 @@ pub const DAY_BYTES: usize = 205;
 pub const MOST_DAYS: usize = 92;
 /// Cells of an import's answer: number, line, and the bytes that were written.
 pub const IMPORT_CELLS: usize = 3;
+/// Totals that are stated or filed, one for each pollutant.
+pub const TOTALS: usize = 5;
+/// Cells of a check's answer: the outcome, then row and field or number and place.
+pub const CHECK_CELLS: usize = 3;

@@ -105,6 +105,8 @@ pub enum Refusal {
         /// The first line of the day without room, from 1.
         line: usize,
     },
+    /// 22: the filed row cells are not [`ROW_CELLS`](crate::ROW_CELLS) for each line of the file.
+    RowCount,
 }
 
 impl Refusal {
@@ -131,6 +133,7 @@ impl Refusal {
             Refusal::TextLine { .. } => 19,
             Refusal::TextRange { .. } => 20,
             Refusal::FewRecordBytes { .. } => 21,
+            Refusal::RowCount => 22,
         }
     }
 
@@ -156,7 +159,8 @@ impl Refusal {
             | Refusal::PanelUnlawful
             | Refusal::TextLine { .. }
             | Refusal::TextRange { .. }
-            | Refusal::FewRecordBytes { .. } => None,
+            | Refusal::FewRecordBytes { .. }
+            | Refusal::RowCount => None,
         }
     }
 
@@ -210,6 +214,14 @@ impl Refusal {
         }
     }
 
+    /// What the check answered: the file's own refusal, or the row count's.
+    pub(crate) fn of_check(number: u32, place: usize) -> Self {
+        match number {
+            22 => Refusal::RowCount,
+            _ => Refusal::of_account(number, place),
+        }
+    }
+
     fn fault(&self) -> &'static str {
         match self {
             Refusal::CutOrUnknown { .. } => "the record is cut short, of an unknown kind, or not of its kind's length",
@@ -247,6 +259,7 @@ impl Refusal {
                 "a concentration is over 10,000, a flow is over 5,000,000, or a day is past 91"
             }
             Refusal::FewRecordBytes { .. } => "fewer than 205 bytes a day were lent for records",
+            Refusal::RowCount => "the filed row cells are not 7 for each line of the file",
         }
     }
 
@@ -284,6 +297,7 @@ impl Refusal {
                 "correct the reading at its source, or write the hour as missing; export at most 92 days at a time"
             }
             Refusal::FewRecordBytes { .. } => "lend 205 bytes for each day; 18,860 are always enough",
+            Refusal::RowCount => "file one row for each line, seven cells each, in the file's order",
         }
     }
 }
@@ -322,6 +336,9 @@ mod tests {
             let refusal = Refusal::of_import(number, 25);
             assert_eq!((refusal.number(), refusal.place(), refusal.line()), (number, None, Some(25)));
         }
+        assert_eq!(Refusal::of_check(2, 219), Refusal::OutOfPlace { place: 219 });
+        let refusal = Refusal::of_check(22, 0);
+        assert_eq!((refusal.number(), refusal.place(), refusal.line()), (22, None, None));
     }
 
     #[test]
@@ -354,6 +371,11 @@ mod tests {
             Refusal::FewRecordBytes { line: 25 }.to_string(),
             "refused 21 at line 25: fewer than 205 bytes a day were lent for records; lend 205 bytes for each day; \
              18,860 are always enough"
+        );
+        assert_eq!(
+            Refusal::RowCount.to_string(),
+            "refused 22: the filed row cells are not 7 for each line of the file; file one row for each line, seven \
+             cells each, in the file's order"
         );
     }
 }

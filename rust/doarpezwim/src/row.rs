@@ -158,6 +158,15 @@ impl Row {
             first_missing: first_plus_1.checked_sub(1).map(u32::try_from).transpose().ok()?,
         })
     }
+
+    /// The row as cells, in the order of its fields; the last is the first missing hour or day plus 1, or 0.
+    #[must_use]
+    pub fn cells(&self) -> [u64; ROW_CELLS] {
+        let (Source::Stack(number) | Source::Outfall(number)) = self.source;
+        let first_plus_1 = self.first_missing.map_or(0, |first| u64::from(first) + 1);
+        let (pollutant, method) = (self.pollutant.number().into(), self.method.number().into());
+        [number.into(), pollutant, method, self.grams, self.running.into(), self.missing.into(), first_plus_1]
+    }
 }
 
 impl fmt::Display for Row {
@@ -184,7 +193,9 @@ mod tests {
         assert_eq!((row.running, row.missing, row.first_missing), (4, 1, Some(2)));
         let text = "stack 1, nitrogen oxides: 126500 g, automatic; 4 running hours, 1 missing, the first is hour 2";
         assert_eq!(row.to_string(), text);
+        assert_eq!(row.cells(), [1, 2, 1, 126_500, 4, 1, 3]);
         let whole = Row::of_cells(&[65_535, 3, 4, 0, 0, 0, 0]).expect("cells of a row");
+        assert_eq!(whole.cells(), [65_535, 3, 4, 0, 0, 0, 0]);
         assert_eq!((whole.source, whole.first_missing), (Source::Stack(65_535), None));
         for pollutant in Pollutant::ALL {
             let row = Row::of_cells(&[1, pollutant.number().into(), 1, 0, 0, 0, 0]).expect("cells of a row");
