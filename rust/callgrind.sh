@@ -1,5 +1,6 @@
 #!/bin/sh
-# Prints the instructions of one call, proved and reference, for each case of the benchmark.
+# Prints the instructions of one call, proved and reference, for each case of the benchmark; then those of the check
+# beside the account, both proved.
 # A run of 11 calls less a run of 1 call is 10 calls: what else the program does is in both.
 set -eu
 cd "$(dirname "$0")"
@@ -29,6 +30,17 @@ for case in line lines dark days water gap gaps text; do
     line) one_proved=$proved one_reference=$reference ;;
     lines) all_proved=$proved all_reference=$reference ;;
     esac
+    case $case in
+    line | lines | dark | days) accounts="${accounts:-} $case=$proved" ;;
+    esac
 done
 echo "48 lines over 48 x one line: proved $(quotient "$all_proved" "$((48 * one_proved))")," \
     "reference $(quotient "$all_reference" "$((48 * one_reference))")"
+
+printf '\n%-8s %12s %12s %7s\n' case check account ratio
+for account in $accounts; do
+    case=${account%=*}
+    account=${account#*=}
+    check=$(per_call "$case" check)
+    printf '%-8s %12s %12s %7s\n' "$case" "$check" "$account" "$(quotient "$check" "$account")"
+done

@@ -1,7 +1,7 @@
-//! Calls the four functions on heap blocks of exactly the lent size, so that valgrind sees every step outside them.
+//! Calls the five functions on heap blocks of exactly the lent size, so that valgrind sees every step outside them.
 
 use doarpezwim::ffi;
-use inputs::{Case, Export, Lookup, Rng, Size, Step};
+use inputs::{Case, Export, Filing, Lookup, Rng, Size, Step};
 
 const SEED: u64 = 0x0d0a_29e2_0004;
 
@@ -60,6 +60,18 @@ fn import(export: Export, rng: &mut Rng) -> u32 {
     unsafe { ffi::doarpezwim_import(text.as_ptr(), text.len(), records.as_mut_ptr(), records.len(), &mut *answer) }
 }
 
+fn check(filing: Filing) -> u32 {
+    let (file, rows) = (filing.file.into_boxed_slice(), filing.rows.into_boxed_slice());
+    let (totals, mut answer) = (Box::new(filing.totals), Box::new([0; doarpezwim::CHECK_CELLS]));
+    // SAFETY: every pointer comes with the length of its own block.
+    unsafe { ffi::doarpezwim_check(file.as_ptr(), file.len(), rows.as_ptr(), rows.len(), &*totals, &mut *answer) }
+}
+
+/// The reference's account, by which filings are made.
+fn plain_account(file: &[u8], rows: &mut [u64]) -> [u64; 8] {
+    reference::account(file, rows, &mut [0; reference::HOURS], &mut [0; reference::HOURS]).cells()
+}
+
 fn main() {
     let mut rng = Rng::new(SEED);
     let mut numbers = [0; 19];
@@ -90,4 +102,9 @@ fn main() {
         numbers[import(export, &mut rng) as usize] += 1;
     }
     println!("import calls by number: {numbers:?}");
+    let mut outcomes = [0; 3];
+    for _ in 0..2_000 {
+        outcomes[check(Filing::generate(plain_account, u64::MAX, &mut rng)) as usize] += 1;
+    }
+    println!("check calls by outcome: {outcomes:?}");
 }

@@ -1,17 +1,22 @@
-//! The proved account and import calls against the reference: same machine, same input, both as release builds.
+//! The proved account and import calls against the reference, and the proved check beside the proved account: same
+//! machine, same input, all as release builds.
 //!
-//! `speed` prints a table of times. `speed callgrind CASE WHO CALLS` makes that many calls and nothing else, for
-//! counting instructions. What is lent is lent again from call to call and not cleared in between.
+//! `speed` prints tables of times. `speed callgrind CASE WHO CALLS` makes that many calls and nothing else, for
+//! counting instructions. What is lent is lent again from call to call and not cleared in between. What is checked is
+//! what the account states, so that all of it is looked at.
 
 use std::hint::black_box;
 use std::time::{Duration, Instant};
 
+use doarpezwim::{Row, Totals};
 use inputs::wire::{self, Day, Head, Line, WaterDay, WaterHead, WaterLine};
 use inputs::{Export, Rng};
 
 const SEED: u64 = 0x0d0a_29e2_0005;
 const SAMPLES: usize = 301;
 const CASES: usize = 8;
+/// Of these the first are checked as well.
+const CHECKED: usize = 4;
 
 /// What is lent to the calls.
 struct Lent {
@@ -28,52 +33,67 @@ impl Lent {
         Lent { rows, concentration: vec![0; doarpezwim::WORK_CELLS], flow: vec![0; doarpezwim::WORK_CELLS], records }
     }
 
-    fn calls(&mut self, call: Call, file: &[u8], count: u32) {
+    fn calls(&mut self, call: Call, case: &Case, count: u32) {
         for _ in 0..count {
-            black_box(call(black_box(file), self));
+            black_box(call(black_box(case), self));
         }
     }
 }
 
-type Call = fn(&[u8], &mut Lent) -> u64;
+type Call = fn(&Case, &mut Lent) -> u64;
 
 /// A benchmark of refusals would tell nothing, so that each side has to accept.
-fn proved_account(file: &[u8], lent: &mut Lent) -> u64 {
-    let stated = doarpezwim::account_into(file, &mut lent.rows, &mut lent.concentration, &mut lent.flow);
+fn proved_account(case: &Case, lent: &mut Lent) -> u64 {
+    let stated = doarpezwim::account_into(&case.file, &mut lent.rows, &mut lent.concentration, &mut lent.flow);
     stated.expect("a sound file").cells()[0][3]
 }
 
-fn plain_account(file: &[u8], lent: &mut Lent) -> u64 {
-    assert_eq!(reference::account(file, &mut lent.rows, &mut lent.concentration, &mut lent.flow).number, 0);
+fn plain_account(case: &Case, lent: &mut Lent) -> u64 {
+    assert_eq!(reference::account(&case.file, &mut lent.rows, &mut lent.concentration, &mut lent.flow).number, 0);
     lent.rows[3]
 }
 
-fn proved_import(text: &[u8], lent: &mut Lent) -> u64 {
-    doarpezwim::import_days(text, &mut lent.records).expect("a sound text") as u64
+fn proved_import(case: &Case, lent: &mut Lent) -> u64 {
+    doarpezwim::import_days(&case.file, &mut lent.records).expect("a sound text") as u64
 }
 
-fn plain_import(text: &[u8], lent: &mut Lent) -> u64 {
-    let imported = reference::import_days(text, &mut lent.records);
+fn plain_import(case: &Case, lent: &mut Lent) -> u64 {
+    let imported = reference::import_days(&case.file, &mut lent.records);
     assert_eq!(imported.number, 0);
     imported.count
 }
 
+fn proved_check(case: &Case, _: &mut Lent) -> u64 {
+    doarpezwim::check(&case.file, &case.rows, &case.totals).expect("a right filing");
+    case.rows[3]
+}
+
 /// Who answers, and by which call.
-const WHO: [&str; 2] = ["proved", "reference"];
-const ACCOUNT: [Call; 2] = [proved_account, plain_account];
-const IMPORT: [Call; 2] = [proved_import, plain_import];
+const WHO: [&str; 3] = ["proved", "reference", "check"];
+const ACCOUNT: &[Call] = &[proved_account, plain_account, proved_check];
+const IMPORT: &[Call] = &[proved_import, plain_import];
 
 /// An input by name.
 struct Case {
     name: &'static str,
     text: &'static str,
     file: Vec<u8>,
-    both: [Call; 2],
+    /// By each of those who answer it.
+    calls: &'static [Call],
+    /// What is filed for it, which is right.
+    rows: Vec<u64>,
+    totals: Totals,
 }
 
 impl Case {
     fn account(name: &'static str, text: &'static str, file: Vec<u8>) -> Self {
-        Case { name, text, file, both: ACCOUNT }
+        let stated = doarpezwim::account(&file).expect("a sound file");
+        let rows = stated.rows.iter().flat_map(Row::cells).collect();
+        Case { name, text, file, calls: ACCOUNT, rows, totals: stated.totals }
+    }
+
+    fn import(name: &'static str, text: &'static str, file: Vec<u8>) -> Self {
+        Case { name, text, file, calls: IMPORT, rows: Vec::new(), totals: Totals::default() }
     }
 }
 
@@ -129,7 +149,7 @@ fn cases() -> [Case; CASES] {
             stacks(1, 92, |hour| (900..1_450).contains(&hour), rng),
         ),
         Case::account("gaps", "92 days, 25 dark after each 75", stacks(1, 92, |hour| hour % 100 >= 75, rng)),
-        Case { name: "text", text: "a text of 92 days, to records", file: Export::quarter(rng), both: IMPORT },
+        Case::import("text", "a text of 92 days, to records", Export::quarter(rng)),
     ]
 }
 
@@ -147,50 +167,58 @@ impl Times {
     }
 }
 
-/// Times of both on each case; samples alternate, so that a busy machine slows all of them alike.
-fn measure(cases: &[Case; CASES]) -> [[Times; 2]; CASES] {
+/// Times of each who answers on each case; samples alternate, so that a busy machine slows all of them alike.
+fn measure(cases: &[Case; CASES]) -> Vec<Vec<Times>> {
     let mut lent = Lent::new();
-    let mut samples: [[Vec<Duration>; 2]; CASES] = Default::default();
+    let mut samples: Vec<Vec<Vec<Duration>>> = cases.iter().map(|case| vec![Vec::new(); case.calls.len()]).collect();
     for _ in 0..SAMPLES {
         for (case, samples) in cases.iter().zip(&mut samples) {
             let calls = (200_000 / case.file.len() as u32).clamp(1, 100);
-            for (call, samples) in case.both.iter().zip(samples) {
+            for (call, samples) in case.calls.iter().zip(samples) {
                 let start = Instant::now();
-                lent.calls(*call, &case.file, calls);
+                lent.calls(*call, case, calls);
                 samples.push(start.elapsed() / calls);
             }
         }
     }
-    samples.map(|both| both.map(Times::of))
+    samples.into_iter().map(|case| case.into_iter().map(Times::of).collect()).collect()
 }
 
-fn table() {
-    let cases = cases();
-    let times = measure(&cases);
-    println!("Time of a call in microseconds, {SAMPLES} samples; lent slices are not cleared between calls.\n");
+/// A line for each case, of two who answer, each by name and place.
+fn print_table(cases: &[Case], times: &[Vec<Times>], [(one, at_one), (other, at_other)]: [(&str, usize); 2]) {
     println!("{:36} {:>8} {:>30} {:>30}", "", "", "median", "least");
-    let ([proved, plain], ratio) = (WHO, "ratio");
+    let ratio = "ratio";
     print!("{:36} {:>8}", "input", "bytes");
-    println!(" {proved:>10} {plain:>10} {ratio:>8} {proved:>10} {plain:>10} {ratio:>8}");
-    for (case, [proved, plain]) in cases.iter().zip(&times) {
+    println!(" {one:>10} {other:>10} {ratio:>8} {one:>10} {other:>10} {ratio:>8}");
+    for (case, times) in cases.iter().zip(times) {
         print!("{:36} {:>8}", case.text, case.file.len());
-        for (proved, plain) in [(proved.median, plain.median), (proved.least, plain.least)] {
-            print!(" {proved:>10.2} {plain:>10.2} {:>8.2}", proved / plain);
+        let (one, other) = (&times[at_one], &times[at_other]);
+        for (one, other) in [(one.median, other.median), (one.least, other.least)] {
+            print!(" {one:>10.2} {other:>10.2} {:>8.2}", one / other);
         }
         println!();
     }
-    let [one, all, ..] = &times;
+}
+
+fn tables() {
+    let cases = cases();
+    let times = measure(&cases);
+    println!("Time of a call in microseconds, {SAMPLES} samples; lent slices are not cleared between calls.\n");
+    print_table(&cases, &times, [(WHO[0], 0), (WHO[1], 1)]);
+    let (one, all) = (&times[0], &times[1]);
     for (who, name) in WHO.iter().enumerate() {
         let (median, least) = (all[who].median / one[who].median, all[who].least / one[who].least);
         println!("48 lines over 48 x one line, {name}: median {:.2}, least {:.2}", median / 48.0, least / 48.0);
     }
+    println!("\nThe check beside the account, both proved:\n");
+    print_table(&cases[..CHECKED], &times, [(WHO[2], 2), ("account", 0)]);
 }
 
 /// Calls of one side on one case and nothing else.
 fn calls_only(case: &str, who: &str, count: &str) -> Option<()> {
     let case = cases().into_iter().find(|known| known.name == case)?;
-    let call = case.both[WHO.iter().position(|known| *known == who)?];
-    Lent::new().calls(call, &case.file, count.parse().ok()?);
+    let call = *case.calls.get(WHO.iter().position(|known| *known == who)?)?;
+    Lent::new().calls(call, &case, count.parse().ok()?);
     Some(())
 }
 
@@ -199,14 +227,15 @@ fn main() {
     let arguments: Vec<&str> = arguments.iter().map(String::as_str).collect();
     let done = match arguments.as_slice() {
         [] => {
-            table();
+            tables();
             Some(())
         }
         ["callgrind", case, who, count] => calls_only(case, who, count),
         _ => None,
     };
     if done.is_none() {
-        eprintln!("usage: speed | speed callgrind line|lines|dark|days|water|gap|gaps|text proved|reference CALLS");
+        eprintln!("usage: speed | speed callgrind CASE proved|reference|check CALLS");
+        eprintln!("cases: line lines dark days water gap gaps text; the text is not checked");
         std::process::exit(2);
     }
 }
