@@ -15,10 +15,10 @@
 //! by hour, and [`governing_survey`] finds the survey that counts at an hour. [`import_days`] writes the day records of
 //! a historian's text export, and [`check`] says whether what a plant has filed is what its file gives.
 //!
-//! The calls are proved in Rattle and linked from a static archive. They answer what document 01 with requests A1 to A3,
-//! A5 and A6 says for every input, read and write nothing but what they are lent, allocate nothing and keep no state. This
-//! crate adds types, and the borrow rules that the C interface cannot state; it is not proved itself. A call takes
-//! about 32 KB of stack.
+//! The calls are proved in Rattle and linked from a static archive. They answer what document 01 with requests A1 to
+//! A3, A5 and A6 says for every input, read and write nothing but what they are lent, allocate nothing and keep no
+//! state. This crate adds types, and the borrow rules that the C interface cannot state; it is not proved itself. A
+//! call takes about 32 KB of stack.
 #![warn(missing_docs)]
 
 mod account;

@@ -1,7 +1,7 @@
 //! Inputs for the comparison tests, the valgrind run and the benchmark, all from fixed seeds.
 //!
-//! It knows the shape of a record file, of a text export and of a filed text and the ranges of their fields, and nothing
-//! of how an account is computed: what is filed is made by the account call that it is handed.
+//! It knows the shape of a record file, of a text export and of a filed text and the ranges of their fields, and
+//! nothing of how an account is computed: what is filed is made by the account call that it is handed.
 #![forbid(unsafe_code)]
 
 mod case;

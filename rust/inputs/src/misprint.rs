@@ -21,16 +21,21 @@ pub enum Misprint {
     LinesJoined,
     /// In a row that others follow.
     NumberLost,
+    /// One total or more is left, or none.
     TotalLost,
     NoTotal,
+    /// In the place of `total`.
     OtherWord,
     TotalLineLost,
+    /// The text ends inside the word `total`.
     TotalLineCut,
+    /// The text ends inside the totals, or just before their line feed.
     NoLastEnd,
     RowCut,
+    /// Behind the totals.
     BytesBehind,
     EmptyText,
-    /// In a row or in the totals.
+    /// A number out of range.
     RowOver,
     TotalOver,
 }

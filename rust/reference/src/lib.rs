@@ -1,5 +1,5 @@
-//! The quarter account of document 01 with requests A1 to A3, A5 and A6 of document 02, written from the documents and not
-//! from the proved code.
+//! The quarter account of document 01 with requests A1 to A3, A5 and A6 of document 02, written from the documents and
+//! not from the proved code.
 //!
 //! It shares no code with the proved library. The comparison tests hold the two against each other, and the benchmark
 //! takes this one as its baseline.
