@@ -5,8 +5,8 @@ use crate::filing::Filing;
 use crate::filing_done::ROW_CELLS;
 use crate::rng::Rng;
 
-/// The largest number that a filed text may have: 19 digits.
-pub const MOST_NUMBER: u64 = 9_999_999_999_999_999_999;
+/// The largest number that a filed text may have.
+pub const MOST_NUMBER: u64 = u64::MAX;
 
 /// The words between the blanks: the numbers of a row; or `total` and five numbers, unless it was damaged.
 #[derive(Clone, Debug)]

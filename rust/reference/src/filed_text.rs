@@ -5,8 +5,6 @@ use crate::refusal::{Fault, Refusal};
 
 const ROW_NUMBERS: usize = 7;
 const TOTAL: &[u8] = b"total ";
-/// A number has at most 19 digits, leading zeros aside.
-const MOST_NUMBER: u64 = 9_999_999_999_999_999_999;
 
 /// Rows and totals as they are filed.
 #[derive(Clone, Debug, PartialEq, Eq)]
@@ -59,6 +57,7 @@ fn split_numbers(line: &[u8]) -> Option<Vec<&[u8]>> {
     numbers.iter().all(|number| is_digits(number)).then_some(numbers)
 }
 
+/// A number in range is one that a cell has room for.
 fn value(digits: &[u8]) -> Result<u64, Refusal> {
-    number(digits).filter(|&value| value <= MOST_NUMBER).ok_or(Refusal::TextRange)
+    number(digits).ok_or(Refusal::TextRange)
 }

@@ -55,7 +55,7 @@ fn takes_what_account_prints() {
 #[test]
 fn names_the_first_wrong_number() {
     assert_eq!(example(&format!("1 2 1 126501 4 1 4\n{TOTAL}")), "wrong 0 3\n");
-    assert_eq!(example(&format!("{ROW}total 0 126500 0 0 9999999999999999999\n")), "wrong 1 4\n");
+    assert_eq!(example(&format!("{ROW}total 0 126500 0 0 18446744073709551615\n")), "wrong 1 4\n");
     assert_eq!(printed_check(&[], b"total 0 0 7 0 0\n"), "wrong 0 2\n");
 }
 
@@ -126,9 +126,9 @@ fn waits_for_the_totals() {
 /// 19 before 20 in a line, an earlier line before a later one, and bytes behind the totals after all.
 #[test]
 fn keeps_the_order() {
-    let over = "10000000000000000000";
+    let over = "18446744073709551616";
     let digits = "9".repeat(300);
-    for number in [over, "00010000000000000000000", "18446744073709551617", &digits] {
+    for number in [over, "00018446744073709551616", "18446744073709551617", &digits] {
         assert_eq!(example(&format!("1 2 1 {number} 4 1 3\n{TOTAL}")), "refused 20 1\n", "{number}");
         assert_eq!(example(&format!("{ROW}total 0 {number} 0 0 0\n")), "refused 20 2\n", "{number}");
     }
