@@ -51,25 +51,30 @@ fn answer(file: &[u8]) {
     say(&line[0..k]);
 }
 
-fn main() {
-    if os::arg_count() > 1 {
-        refuse_arguments();
-        return;
-    }
+// The record file is read into the lent room, which is as long as the longest that is taken.
+fn answer_frame(file: &mut [u8]) {
     let n = length();
     if n == 0xffff_ffff {
         refuse_input();
         return;
     }
-    if n > 65536 {
+    if n > file.len() {
         say(b"refused 13 0\n");
         return;
     }
-    let mut file = [0u8; 65536];
     let got = input::read_pieces(libc::STDIN_FILENO, &mut file[0..n], 65536);
     if got.count < n {
         refuse_input();
         return;
     }
     answer(&file[0..n]);
+}
+
+fn main() {
+    if os::arg_count() > 1 {
+        refuse_arguments();
+        return;
+    }
+    let mut file = [0u8; 65536];
+    answer_frame(&mut file);
 }
