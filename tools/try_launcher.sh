@@ -57,6 +57,18 @@ line() { # CASE LINE TEXT N WORDS
     expect "$1, by -" 1 /dev/null "$5" launch import - <"$room/changed"
     expect "$1, through a pipe" 1 /dev/null "$5" in_two "$room/changed" launch import
 }
+# What is said of a filing: ANSWER is printed, and WORDS are said; nothing is said of one that agrees.
+says() { # CASE ANSWER WORDS FILE FILED
+    status=1 && [ "$2" != yes ] || status=0
+    echo "$2" >"$room/answer" && expect "$1" $status "$room/answer" "$3" launch check "$4" "$5"
+}
+# A filing at fault, LINE of the quarter's own made TEXT (with \0ooo for a byte, and \n for an end): by its name, as standard input, and through a pipe.
+filing() { # CASE LINE TEXT ANSWER WORDS
+    { head -n $(($2 - 1)) "$rows" && printf '%b\n' "$3" && tail -n +$(($2 + 1)) "$rows"; } >"$room/changed"
+    says "$1" "$4" "$5" "$quarter" "$room/changed"
+    expect "$1, by -" 1 "$room/answer" "$5" launch check "$quarter" - <"$room/changed"
+    expect "$1, through a pipe" 1 "$room/answer" "$5" in_two "$room/changed" launch check "$quarter" -
+}
 no_answer() { name=$1 words=$2 && shift 2 && expect "$name" 2 /dev/null "$words" "$@"; } # CASE WORDS COMMAND...
 
 # ways to run a command
@@ -64,6 +76,10 @@ in_pieces() { { head -c 100 && sleep 1 && cat; } <samples/quarter.rec | "$@"; }
 in_two() { file=$1 && shift && { head -c 9 && cat; } <"$file" | "$@"; }
 endless() { yes | "$@"; }
 by_fifo() { mkfifo "$room/fifo" && { cat "$room/coal" >"$room/fifo" & } && "$@" "$room/fifo"; }
+by_two_fifos() { # FILE FILED COMMAND...
+    rm -f "$room/first" "$room/second" && mkfifo "$room/first" "$room/second" && { cat "$1" >"$room/first" & } && { cat "$2" >"$room/second" & }
+    shift 2 && "$@" "$room/first" "$room/second"
+}
 said_first() { "$@" 2>"$room/said"; got=$? && grep -v ' proving and building ' "$room/said" | head -n 1 && cat "$room/said" >&2 && return $got; }
 from() { (cd "$1" && shift && "$@"); }
 to_full_disk() { "$@" >/dev/full; }
@@ -76,11 +92,12 @@ broken() { (PATH=$room/$1:$PATH && shift && "$@"); }
 temporary() { (export TMPDIR="$1" && shift && "$@"); }
 # Says what stays behind in the folder for temporary files.
 left_behind() { mkdir -p "$room/tmp" && temporary "$room/tmp" "$@"; got=$? && ls -A "$room/tmp" >&2 && return $got; }
-killed() { # SIGNAL: the launcher, while it waits for more of its input
-    mkfifo "$room/$1" && { ${shell:+"$shell"} "$launcher" account <"$room/$1" & } && exec 7>"$room/$1"
-    head -c 9 "$example" >&7 && sleep 3 && kill -s "$1" $! && wait $! 2>/dev/null
+killed() { # SIGNAL COMMAND...: the launcher, while it waits for more of its input
+    signal=$1 && shift
+    mkfifo "$room/more" && { ${shell:+"$shell"} "$launcher" "$@" <"$room/more" & } && exec 7>"$room/more"
+    head -c 9 "$example" >&7 && sleep 3 && kill -s "$signal" $! && wait $! 2>/dev/null
     got=$?
-    exec 7>&-
+    exec 7>&- && rm -f "$room/more"
     return $got
 }
 with_variables() { (export QEMU_STRACE=1 QEMU_ARGV0=x && "$@"); }
@@ -90,10 +107,11 @@ four_at_once() {
     wait
     cat "$room"/out.[1-4]
 }
-at_terminal() { # account or import
-    export launcher room shell command="$1"
+at_terminal() { # COMMAND [FILE]
+    export launcher room shell command="$1" file="${2-}"
     # shellcheck disable=SC2016
-    printf '\004' | SHELL=/bin/sh script -qec '${shell:+"$shell"} "$launcher" "$command" >"$room/tty.out" 2>"$room/tty.err"' /dev/null >/dev/null
+    printf '\004' |
+        SHELL=/bin/sh script -qec '${shell:+"$shell"} "$launcher" "$command" ${file:+- "$file"} >"$room/tty.out" 2>"$room/tty.err"' /dev/null >/dev/null
     got=$?
     cat "$room/tty.out" && cat "$room/tty.err" >&2
     return $got
@@ -165,6 +183,15 @@ cp "$text" "$room/a name.csv" && cp "$text" "$room/-name.csv"
 d=0 && while [ $d -lt 93 ]; do h=0 && while [ $h -lt 24 ]; do echo "$d,$h,S,," && h=$((h + 1)); done && d=$((d + 1)); done >"$room/93.csv"
 head -n 2208 "$room/93.csv" >"$room/92.csv" && head -n 2209 "$room/93.csv" >"$room/day 92.csv"
 d=0 && while [ $d -lt 92 ]; do printf '%b' "\0313\000\002\000\0$(printf %o $d)" && zeros 200 && d=$((d + 1)); done >"$room/92.rec"
+# a filing of the quarter that agrees, and others
+rows=$home/samples/quarter.out && echo yes >"$room/yes.out" && echo 'wrong 1 5' >"$room/wrong.out"
+head -n 2 "$rows" >"$room/no total" && sed 3d "$rows" >"$room/two rows" && { cat "$rows" && echo; } >"$room/behind" && head -c -1 "$rows" >"$room/no end"
+{ head -n 3 "$rows" && head -n 3 "$rows" | tail -n 1 && tail -n 1 "$rows"; } >"$room/four rows" && sed '3s/ [^ ]*$//' "$rows" >"$room/short"
+sed "s/\$/$(printf '\r')/" "$rows" >"$room/crlf.txt" && sed '2d;1s/^7/8/' "$rows" >"$room/left out"
+padded() { zeros $((65536 - $(wc -c <"$1"))) | tr '\000' 0 && cat "$1"; } # FILING: as one of 65,536 bytes, by leading zeros
+padded "$rows" >"$room/65536.txt" && padded crates/account/stdout >"$room/most.txt" && { printf 0 && cat "$room/65536.txt"; } >"$room/65537.txt"
+cp "$stated" "$room/a name.txt" && cp "$rows" "$room/-name.txt" && cp "$quarter" "$room/-quarter.rec" && echo 'total 0 0 0 0 0' >"$room/none due"
+echo 'total 0 0 0 1 0' >"$room/one due" && sed '2s/ 4 21$/ 6 21/' samples/plant.out >"$room/days.txt" && { sed -n 2p "$rows" && sed 2d "$rows"; } >"$room/order"
 mkdir "$room/tools" && for tool in cat dirname readlink; do ln -s "$(command -v $tool)" "$room/tools"; done
 mkdir "$room/kit" && cat >"$room/kit/rt" <<END
 #!/bin/sh
@@ -175,7 +202,7 @@ chmod +x "$room/kit/rt"
 for tool in awk od head; do # each fails where the words need it, and only there: rt needs them too
     mkdir "$room/no $tool" && cat >"$room/no $tool/$tool" <<END
 #!/bin/sh
-case "\$*" in *words.awk* | *line.awk* | *65537*) exit 127 ;; esac
+case "\$*" in *words.awk* | *line.awk* | *filed.awk* | *'-t u1'* | *65537*) exit 127 ;; esac
 exec $(command -v $tool) "\$@"
 END
     chmod +x "$room/no $tool/$tool"
@@ -292,8 +319,8 @@ expect "no awk" 1 "$room/coal.out" "$not_found" broken "no awk" launch account "
 expect "no od" 1 "$room/coal.out" "$not_found" broken "no od" launch account "$room/coal"
 no_answer "input that cannot be kept" "could not be read, or not be kept" broken "no head" launch account <"$example"
 expect "nothing stays behind" 0 "$stated" '' left_behind launch account <"$example"
-expect "nothing stays behind of a launcher that is stopped" 143 /dev/null '' left_behind killed TERM
-expect "nothing stays behind of a launcher that is killed" 137 /dev/null '' left_behind killed KILL
+expect "nothing stays behind of a launcher that is stopped" 143 /dev/null '' left_behind killed TERM account
+expect "nothing stays behind of a launcher that is killed" 137 /dev/null '' left_behind killed KILL account
 
 # ---- nothing stated
 no_answer "no such file" "there is no file" launch account "$room/none"
@@ -381,6 +408,133 @@ if command -v script >/dev/null; then
     expect "a text from a terminal" 0 /dev/null "waiting for a text" at_terminal import
 else skip "records for a terminal, a text from one" "there is no program script here"; fi
 
+# ---- filings that agree
+says "a filing" yes '' "$quarter" "$rows"
+says "a filing of a plant with an outfall" yes '' samples/plant.rec samples/plant.out
+says "a filing for 65,536 bytes" yes '' crates/account/stdin crates/account/stdout
+says "a filing of 65,536 bytes, by leading zeros" yes '' "$quarter" "$room/65536.txt"
+says "a filing of 65,536 bytes for a file of as many" yes '' crates/account/stdin "$room/most.txt"
+says "a filing for an empty file" yes "the record file is empty: no row is due, and none was filed" "$room/empty" "$room/none due"
+says "a filing for /dev/null" yes "the record file is empty" /dev/null "$room/none due"
+expect "a filing, as standard input" 0 "$room/yes.out" '' launch check "$quarter" - <"$rows"
+expect "a filing, through a pipe" 0 "$room/yes.out" '' in_two "$rows" launch check "$quarter" -
+expect "a filing, its record file as standard input" 0 "$room/yes.out" '' launch check - "$rows" <"$quarter"
+expect "a filing, its record file through a pipe that hands out pieces" 0 "$room/yes.out" '' in_pieces launch check - "$rows"
+expect "a filing, both through FIFOs" 0 "$room/yes.out" '' by_two_fifos "$quarter" "$rows" launch check
+expect "a filing, through symbolic links, from another folder" 0 "$room/yes.out" '' from "$room" run "$room/link" check "a name.rec" "a name.txt"
+expect "a filing, names that begin with -" 0 "$room/yes.out" '' from "$room" launch check -- -quarter.rec -name.txt
+expect "a filing, standard input closed" 0 "$room/yes.out" '' no_stdin launch check "$quarter" "$rows"
+expect "a filing, standard error closed" 0 "$room/yes.out" '' no_stderr launch check "$quarter" "$rows"
+expect "a filing, the emulator's variables" 0 "$room/yes.out" '' with_variables launch check "$quarter" "$rows"
+expect "a filing, nothing stays behind" 0 "$room/yes.out" '' left_behind launch check "$quarter" "$rows"
+expect "a filing, nothing stays behind of a launcher that is stopped" 143 /dev/null '' left_behind killed TERM check - "$rows"
+expect "a filing, no awk" 0 "$room/yes.out" '' broken "no awk" launch check "$quarter" "$rows"
+
+# ---- filings that are wrong
+sulphur="line 1, stack 7, pollutant 1 (sulphur dioxide)" oxides="line 2, stack 7, pollutant 2 (nitrogen oxides)"
+says "the sample" "$(cat samples/filed.out)" "$oxides, missing hours: 700 is filed, and 699 is right" "$quarter" samples/filed.txt
+filing "the stack" 1 '8 1 1 55268383 2131 70 51' 'wrong 0 0' "$sulphur, stack: 8 is filed, and 7 is right"
+filing "the pollutant" 2 '7 3 2 76764233 2131 699 101' 'wrong 1 1' "$oxides, pollutant: 3 (dust) is filed, and 2 (nitrogen oxides) is right"
+filing "a pollutant that there is not" 2 '7 6 2 76764233 2131 699 101' 'wrong 1 1' "pollutant: 6 is filed, and 2 (nitrogen oxides) is right"
+filing "the method" 2 '7 2 1 76764233 2131 699 101' 'wrong 1 2' "$oxides, method: 1 (automatic) is filed, and 2 (manual) is right"
+filing "the grams" 2 '7 2 2 77939732 2131 699 101' 'wrong 1 3' "$oxides, grams: 77939732 is filed, and 76764233 is right"
+filing "the grams of the third row" 3 '7 3 4 11506000 2131 700 101' 'wrong 2 3' "line 3, stack 7, pollutant 3 (dust), grams: 11506000 is filed"
+filing "running hours" 1 '7 1 1 55268383 2208 70 51' 'wrong 0 4' "$sulphur, running hours: 2208 is filed, and 2131 is right"
+filing "the first missing hour itself" 1 '7 1 1 55268383 2131 70 50' 'wrong 0 6' "$sulphur, first missing hour plus 1: 50 is filed, and 51 is right"
+filing "two numbers, of which the first is named" 1 '7 1 1 55268384 2131 71 51' 'wrong 0 3' "$sulphur, grams: 55268384 is filed, and 55268383 is right"
+filing "19 digits" 1 '7 1 1 9007199254740993001 2131 70 51' 'wrong 0 3' "grams: 9007199254740993001 is filed, and 55268383 is right"
+filing "leading zeros" 2 '07 002 2 076764234 2131 699 101' 'wrong 1 3' "grams: 76764234 is filed, and 76764233 is right"
+dust="the total of pollutant 3 (dust), in grams: 55013838447 is filed, and 55013838446 is right"
+filing "a total" 4 'total 55268383 76764233 55013838447 0 0' 'wrong 3 2' "line 4, $dust"
+filing "a total of water" 4 'total 55268383 76764233 55013838446 0 1' 'wrong 3 4' "pollutant 5 (ammonia nitrogen), in grams: 1 is filed, and 0 is right"
+filing "what to do about grams" 2 '7 2 2 77939732 2131 699 101' 'wrong 1 3' "what to do: have the plant work the row out again by its method"
+filing "what to do about a total" 4 'total 1 2 3 4 5' 'wrong 3 0' "what to do: add up the grams of this pollutant over the rows again, which are all right"
+ammonia="line 2, outfall 2, pollutant 5 (ammonia nitrogen), missing days: 6 is filed, and 4 is right"
+says "days of an outfall" 'wrong 1 5' "$ammonia" samples/plant.rec "$room/days.txt"
+says "a total for an empty file" 'wrong 0 3' "line 1, the total of pollutant 4 (chemical oxygen demand), in grams: 1 is filed" "$room/empty" "$room/one due"
+says "the filing of another file" 'wrong 0 0' "$sulphur, stack: 2 is filed, and 7 is right" "$quarter" samples/plant.out
+says "rows in another order" 'wrong 0 1' "$sulphur, pollutant: 2 (nitrogen oxides) is filed" "$quarter" "$room/order"
+expect "a wrong filing, both through FIFOs" 1 "$room/wrong.out" "$oxides, missing hours" by_two_fifos "$quarter" samples/filed.txt launch check
+expect "a wrong filing, its record file as standard input" 1 "$room/wrong.out" "$oxides, missing hours" launch check - samples/filed.txt <"$quarter"
+unnamed="wrong: field 5 of row 1, both counted from 0, is the first number that is not what the rules give for this file"
+expect "a wrong filing, no awk" 1 "$room/wrong.out" "$unnamed" broken "no awk" launch check "$quarter" samples/filed.txt
+expect "a wrong filing, no od" 1 "$room/wrong.out" "$unnamed" broken "no od" launch check "$quarter" samples/filed.txt
+expect "a wrong filing, standard error closed" 1 "$room/wrong.out" '' no_stderr launch check "$quarter" samples/filed.txt
+
+# ---- filings that are refused
+blank_too_many="it has a blank too many"
+filing "an empty line in a filing" 2 '' 'refused 19 2' "line 2, '': it is empty"
+filing "two blanks" 2 '7 2  2 76764233 2131 699 101' 'refused 19 2' "$blank_too_many"
+filing "a blank at the start" 2 ' 7 2 2 76764233 2131 699 101' 'refused 19 2' "$blank_too_many"
+filing "a blank at the end" 2 '7 2 2 76764233 2131 699 101 ' 'refused 19 2' "$blank_too_many"
+filing "a tab" 2 '7\t2 2 76764233 2131 699 101' 'refused 19 2' "line 2, '7\x092 2 76764233 2131 699 101': its number 1 is not digits alone"
+filing "a sign in a filing" 2 '7 2 2 +76764233 2131 699 101' 'refused 19 2' "its number 4 is not digits alone"
+filing "a point" 2 '7 2 2 76764233.0 2131 699 101' 'refused 19 2' "its number 4 is not digits alone"
+filing "commas for thousands" 2 '7 2 2 76,764,233 2,131 699 101' 'refused 19 2' "its number 4 is not digits alone"
+filing "eight numbers" 2 '7 2 2 76764233 2131 699 101 0' 'refused 19 2' "it has 8 numbers, and a row has 7"
+filing "bytes of a filing that are not for a terminal" 2 '\0033[2J\000\0377\0134n' 'refused 19 2' "line 2, '\x1b[2J\x00\xff\x5cn': its number 1"
+filing "a long line of a filing" 2 "7 2 2 $(zeros 100 | tr '\000' 0)76764233 2131 699 101," 'refused 19 2' "and 68 bytes more: its number 7 is not digits alone"
+filing "three totals" 4 'total 55268383 76764233 55013838446' 'refused 19 4' "it has 3 totals, and must have 5"
+filing "a total with a sign" 4 'total 55268383 76764233 55013838446 0 -0' 'refused 19 4' "its number 5 is not digits alone"
+filing "another word for the totals" 4 'sum 55268383 76764233 55013838446 0 0' 'refused 19 4' "6 0 0': its number 1 is not digits alone"
+filing "totals before a row" 2 'total 0 0 0 0 0' 'refused 19 3' "line 3, '7 3 4 55013838446 2131 700 101': it stands behind the line 'total'"
+filing "a number of 20 digits" 2 '7 2 2 10000000000000000000 2131 699 101' 'refused 20 2' "its number 4 has 20 digits, leading zeros aside, and may have 19"
+filing "a total of 30 digits, and zeros" 4 "total 0 0 000$(zeros 30 | tr '\000' 9) 0 0" 'refused 20 4' "its number 3 has 30 digits, leading zeros aside"
+filing "a malformed line with a number of 20 digits" 2 '7 2 2 10000000000000000000 2131 699 101 ' 'refused 19 2' "$blank_too_many"
+filing "a number of 20 digits before a malformed line" 2 '7 2 2 10000000000000000000 2131 699 101\nx' 'refused 20 2' "has 20 digits"
+says "a filing without totals" 'refused 19 3' "line 3 is not there: the filing ends, and the line 'total' is due" "$quarter" "$room/no total"
+says "a line behind the totals" 'refused 19 5' "line 5, '': it stands behind the line 'total', which has to be the last" "$quarter" "$room/behind"
+says "a filing whose last line does not end" 'refused 19 4' "no LF ends it" "$quarter" "$room/no end"
+says "a filing with CR LF" 'refused 19 1' "line 1, '7 1 1 55268383 2131 70 51\x0d': it ends with CR LF, and must" "$quarter" "$room/crlf.txt"
+says "an empty filing" 'refused 19 1' "line 1 is not there: the filing ends" "$quarter" "$room/empty"
+says "an empty filing for an empty file" 'refused 19 1' "line 1 is not there: the filing ends" "$room/empty" "$room/empty"
+says "a record file for a filing" 'refused 19 1' "its number 1 is not digits alone" "$quarter" "$quarter"
+says "a filing of malformed lines, what to do" 'refused 19 1' "what to do: have it sent as 'account' prints it" "$quarter" README.md
+three_lines="in all; the record file has 3 lines, and so 21 are due"
+says "two rows for three lines" 'refused 22 0' "the filing: 2 rows with 14 numbers $three_lines" "$quarter" "$room/two rows"
+says "four rows for three lines" 'refused 22 0' "the filing: 4 rows with 28 numbers in all; the record file has 3 lines" "$quarter" "$room/four rows"
+says "a last row that is short" 'refused 22 0' "the filing: 3 rows with 20 numbers in all; the record file has 3 lines" "$quarter" "$room/short"
+says "no row for three lines" 'refused 22 0' "the filing: 0 rows with 0 numbers in all; the record file has 3 lines" "$quarter" "$room/none due"
+says "rows for an empty file" 'refused 22 0' "the filing: 3 rows with 21 numbers in all; the record file has 0 lines" "$room/empty" "$rows"
+says "wrong rows, and too few" 'refused 22 0' "nothing was compared" "$quarter" "$room/left out"
+says "a filing of 65,537 bytes" 'refused 13 0' "the filing is longer than the 65,536 bytes" "$quarter" "$room/65537.txt"
+says "a record file of 65,537 bytes" 'refused 13 0' "the record file is longer than the 65,536 bytes" "$room/65537" crates/account/stdout
+says "a malformed filing for a file that is too long" 'refused 13 0' "the record file is longer" samples/over.rec README.md
+says "a record file that is refused" 'refused 14 9' "$one, head: coal is 9, and must be 1 to 7" "$room/coal" "$stated"
+says "a record file that is cut" 'refused 1 14' "$day: the file has only 86 of its 205 bytes" "$room/cut" "$stated"
+says "a record file whose last line is open" 'refused 2 219' "$one, the file's end, after the day record of day 0" "$room/open" "$stated"
+says "a text for a record file" 'refused 1 0' "no record file at all" README.md "$stated"
+says "a record file and a filing that are both refused" 'refused 18 50' "$three, end record: running days 2" "$room/no method" README.md
+echo 'refused 13 0' >"$room/13.out" && echo 'refused 14 9' >"$room/14.out" && echo 'refused 19 1' >"$room/19.out" && echo 'refused 22 0' >"$room/22.out"
+expect "a filing without end" 1 "$room/13.out" "the filing is longer" endless launch check "$quarter" -
+expect "a record file without end" 1 "$room/13.out" "the record file is longer" endless launch check - "$rows"
+expect "a record file that is refused, through a pipe" 1 "$room/14.out" "$one, head: coal is 9" in_two "$room/coal" launch check - "$stated"
+expect "a refused filing, standard error closed" 1 "$room/19.out" '' no_stderr launch check "$quarter" README.md
+expect "a refused filing, no awk" 1 "$room/19.out" "line 1 of the filing (the first is 1) is neither a row" broken "no awk" launch check "$quarter" README.md
+expect "a row count that is wrong, no od" 1 "$room/22.out" "there are not seven numbers for each line" broken "no od" launch check "$quarter" "$room/two rows"
+expect "a record file that is refused, no od" 1 "$room/14.out" "$not_found" broken "no od" launch check "$room/coal" "$stated"
+
+# ---- nothing said of a filing
+no_answer "no such record file" "there is no file '$room/none'; nothing is said of the filing" launch check "$room/none" "$rows"
+no_answer "no such filing" "there is no file '$room/none'; nothing is said of the filing" launch check "$quarter" "$room/none"
+no_answer "a folder for a record file" "is a folder, not a record file; nothing is said" launch check "$room/folder" "$rows"
+no_answer "a folder for a filing" "is a folder, not a filing; nothing is said" launch check "$quarter" "$room/folder"
+no_answer "a folder as standard input for a filing" "the filing could not be read" launch check "$quarter" - <"$room/folder"
+no_answer "a folder as standard input for a record file" "the record file could not be read" launch check - "$rows" <"$room/folder"
+no_answer "standard input for both" "one of the two can come on standard input, not both" launch check - - <"$quarter"
+no_answer "an answer for a full disk" "the answer could not be written" to_full_disk launch check "$quarter" "$rows"
+no_answer "an answer for a reader that is gone" "the answer could not be written" reader_gone launch check "$quarter" "$rows"
+no_answer "a filing, standard input closed, by -" "standard input is closed" no_stdin launch check "$quarter" -
+no_answer "a record file, standard input closed, by -" "standard input is closed" no_stdin launch check - "$rows"
+no_answer "an answer for a closed standard output" "standard output is closed" no_stdout launch check "$quarter" "$rows"
+no_answer "a filing, no folder for temporary files" "nothing can be kept in $room/none" temporary "$room/none" launch check "$quarter" "$rows"
+no_answer "a filing that cannot be kept" "could not be read, or not be kept" broken "no head" launch check "$quarter" "$rows"
+no_answer "a filing, no toolchain" "the Rattle toolchain is not installed" no_rt launch check "$quarter" "$rows"
+if [ "$(uname -m)" != x86_64 ]; then no_answer "a filing, a toolchain without its emulator" "no emulator" other_kit launch check "$quarter" "$rows"
+else expect "a filing, a toolchain without its loader" 0 "$room/yes.out" '' other_kit launch check "$quarter" "$rows"; fi
+if command -v script >/dev/null; then expect "a record file from a terminal" 0 "$room/yes.out" "waiting for a record file" at_terminal check "$room/none due"
+else skip "a record file from a terminal" "there is no program script here"; fi
+
 # ---- usage
 expect "help" 0 "$usage_text" '' launch help
 expect "--help" 0 "$usage_text" '' launch --help
@@ -391,6 +545,12 @@ no_answer "an unknown option" "usage:" launch account -x
 no_answer "a name that begins with -, without --" "usage:" from "$room" launch account -name.rec
 no_answer "two texts" "usage:" launch import "$text" "$text"
 no_answer "an unknown option of the import" "usage:" launch import -x
+no_answer "a check of nothing" "usage:" launch check
+no_answer "a record file without a filing" "usage:" launch check "$quarter"
+no_answer "a record file without a filing, behind --" "usage:" launch check -- "$quarter"
+no_answer "two filings" "usage:" launch check "$quarter" "$rows" "$rows"
+no_answer "an unknown option of the check" "usage:" launch check -x "$quarter" "$rows"
+no_answer "a filing's name that begins with -, without --" "usage:" from "$room" launch check "$quarter" -name.txt
 
 # ---- a copy of the repository, in which things break
 copy="$room/a copy" && mkdir "$copy" && cp -R .ci crates crates.txt doarpezwim target "$copy" || exit 2
@@ -399,16 +559,20 @@ expect "test hands on the status of .ci/run" 7 /dev/null '' run "$copy/doarpezwi
 if [ "$(id -u)" -eq 0 ]; then skip "an unreadable file, a target/ that is another's" "root may read and write all"
 else
     chmod 000 "$room/empty" && no_answer "an unreadable file" "not allowed to read" launch account "$room/empty"
+    no_answer "an unreadable record file of a filing" "not allowed to read" launch check "$room/empty" "$rows"
+    no_answer "an unreadable filing" "not allowed to read" launch check "$quarter" "$room/empty"
     chmod a-w "$copy/target" && no_answer "a target/ that is another's" "you may not write" run "$copy/doarpezwim" account "$example"
     chmod u+w "$copy/target"
 fi
 expect "a launcher without its words" 1 "$room/coal.out" "$not_found" run "$copy/doarpezwim" account "$room/coal"
+expect "a launcher without its words for a filing" 1 "$room/wrong.out" "$unnamed" run "$copy/doarpezwim" check "$quarter" samples/filed.txt
 rm "$copy/target/bin/account"
 expect "a program that is gone is built again" 0 "$stated" proving run "$copy/doarpezwim" account "$example"
 echo broken >>"$copy/crates/account/src/main.rt"
 no_answer "sources that are not proved, over a program from older ones" "not proved and built" run "$copy/doarpezwim" account "$example"
 echo broken >>"$copy/crates/historian/src/main.rt"
 no_answer "the same of the import" "not proved and built" run "$copy/doarpezwim" import "$text"
+no_answer "the same of the check, by the account's sources" "not proved and built" run "$copy/doarpezwim" check "$quarter" "$rows"
 
 echo "$cases cases, $wrong not as expected"
 [ "$wrong" -eq 0 ]
