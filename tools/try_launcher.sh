@@ -568,6 +568,8 @@ expect "a launcher without its words" 1 "$room/coal.out" "$not_found" run "$copy
 expect "a launcher without its words for a filing" 1 "$room/wrong.out" "$unnamed" run "$copy/doarpezwim" check "$quarter" samples/filed.txt
 rm "$copy/target/bin/account"
 expect "a program that is gone is built again" 0 "$stated" proving run "$copy/doarpezwim" account "$example"
+rm "$copy/target/bin/checker"
+expect "that of the check too" 0 "$room/yes.out" proving run "$copy/doarpezwim" check "$quarter" "$rows"
 echo broken >>"$copy/crates/account/src/main.rt"
 no_answer "sources that are not proved, over a program from older ones" "not proved and built" run "$copy/doarpezwim" account "$example"
 echo broken >>"$copy/crates/historian/src/main.rt"
