@@ -70,7 +70,7 @@ function is_total(n) { return cut(n) == 6 && cell[1] == "total" && all_numbers(2
 
 # How many numbers a row has, 0 where the line is none.
 function row_of(n,   k) {
-    k = n < 1 || n > lines ? 0 : cut(n)
+    k = cut(n)
     return k <= 7 && all_numbers(1, k) && to[n] < size ? k : 0
 }
 
@@ -120,9 +120,8 @@ function named(words) { return words == "" ? "" : "line " place ", " quoted() ":
 function misplaced(   k, words) {
     if (total_at && place > total_at) return "it stands behind the line 'total', which has to be the last"
     if ((words = malformed()) != "") return words
-    if (!(k = row_of(place))) return ""
-    if (k < 7 && place + 1 != total_at) return "it has " many(k, "number") ", and a row has 7"
-    return (k = row_of(place - 1)) && k < 7 ? "the row before it has " many(k, "number") ", and must have 7" : ""
+    k = row_of(place)
+    return k > 0 && k < 7 && place + 1 != total_at ? "it has " many(k, "number") ", and a row has 7" : ""
 }
 
 function malformed(   k, text, first) {

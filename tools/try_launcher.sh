@@ -185,7 +185,8 @@ head -n 2208 "$room/93.csv" >"$room/92.csv" && head -n 2209 "$room/93.csv" >"$ro
 d=0 && while [ $d -lt 92 ]; do printf '%b' "\0313\000\002\000\0$(printf %o $d)" && zeros 200 && d=$((d + 1)); done >"$room/92.rec"
 # a filing of the quarter that agrees, and others
 rows=$home/samples/quarter.out && echo yes >"$room/yes.out" && echo 'wrong 1 5' >"$room/wrong.out"
-head -n 2 "$rows" >"$room/no total" && sed 3d "$rows" >"$room/two rows" && { cat "$rows" && echo; } >"$room/behind" && head -c -1 "$rows" >"$room/no end"
+head -n 2 "$rows" >"$room/no total" && { cat "$room/no total" && echo '7 3'; } >"$room/cut row"
+sed 3d "$rows" >"$room/two rows" && { cat "$rows" && echo; } >"$room/behind" && head -c -1 "$rows" >"$room/no end"
 { head -n 3 "$rows" && head -n 3 "$rows" | tail -n 1 && tail -n 1 "$rows"; } >"$room/four rows" && sed '3s/ [^ ]*$//' "$rows" >"$room/short"
 sed "s/\$/$(printf '\r')/" "$rows" >"$room/crlf.txt" && sed '2d;1s/^7/8/' "$rows" >"$room/left out"
 padded() { zeros $((65536 - $(wc -c <"$1"))) | tr '\000' 0 && cat "$1"; } # FILING: as one of 65,536 bytes, by leading zeros
@@ -472,6 +473,7 @@ filing "a sign in a filing" 2 '7 2 2 +76764233 2131 699 101' 'refused 19 2' "its
 filing "a point" 2 '7 2 2 76764233.0 2131 699 101' 'refused 19 2' "its number 4 is not digits alone"
 filing "commas for thousands" 2 '7 2 2 76,764,233 2,131 699 101' 'refused 19 2' "its number 4 is not digits alone"
 filing "eight numbers" 2 '7 2 2 76764233 2131 699 101 0' 'refused 19 2' "it has 8 numbers, and a row has 7"
+filing "a short row that is not the last" 2 '7 2 2 76764233 2131 699' 'refused 19 2' "it has 6 numbers, and a row has 7"
 filing "bytes of a filing that are not for a terminal" 2 '\0033[2J\000\0377\0134n' 'refused 19 2' "line 2, '\x1b[2J\x00\xff\x5cn': its number 1"
 filing "a long line of a filing" 2 "7 2 2 $(zeros 100 | tr '\000' 0)76764233 2131 699 101," 'refused 19 2' "and 68 bytes more: its number 7 is not digits alone"
 filing "three totals" 4 'total 55268383 76764233 55013838446' 'refused 19 4' "it has 3 totals, and must have 5"
@@ -483,6 +485,7 @@ filing "a total of 30 digits, and zeros" 4 "total 0 0 000$(zeros 30 | tr '\000' 
 filing "a malformed line with a number of 20 digits" 2 '7 2 2 10000000000000000000 2131 699 101 ' 'refused 19 2' "$blank_too_many"
 filing "a number of 20 digits before a malformed line" 2 '7 2 2 10000000000000000000 2131 699 101\nx' 'refused 20 2' "has 20 digits"
 says "a filing without totals" 'refused 19 3' "line 3 is not there: the filing ends, and the line 'total' is due" "$quarter" "$room/no total"
+says "a filing that is cut in a row, at a line's end" 'refused 19 3' "line 3, '7 3': it has 2 numbers, and a row has 7" "$quarter" "$room/cut row"
 says "a line behind the totals" 'refused 19 5' "line 5, '': it stands behind the line 'total', which has to be the last" "$quarter" "$room/behind"
 says "a filing whose last line does not end" 'refused 19 4' "no LF ends it" "$quarter" "$room/no end"
 says "a filing with CR LF" 'refused 19 1' "line 1, '7 1 1 55268383 2131 70 51\x0d': it ends with CR LF, and must" "$quarter" "$room/crlf.txt"
