@@ -48,6 +48,10 @@ use Rattle.import.proofs.import_days.Met.{met as import-met}
 use Rattle.nearest.proofs.Back.{back}
 use Rattle.import.proofs.Grammar.{formed-is}
 use Rattle.demands.specs.Demands.{Call, Result, Lent, Kept, Version, Keeps, Taken, NoneOfFour, EveryRowNear, RefusesAll, PanelExact, Governs, Demands, Code}
+use Rattle.filed.proofs.check_filed.Met.{met as check-met}
+use Rattle.filed.proofs.filed_text.Met.{met as filed-text-met}
+use Rattle.demands.proofs.Filings.{checks, stated-agrees}
+use Rattle.demands.proofs.Printed.{printed-agrees}
 use Rattle.demands.proofs.Falsity.{differ}
 use Rattle.demands.proofs.Files.{second, two, outfall, dirtier, mixed, callOf, lent-all, rowsTo, Given, given-all}
 use Rattle.demands.proofs.Rows.{row-near}
@@ -286,8 +290,11 @@ demands =
       imports = brings-in;
       lines = formed-is;
       decimals = back;
+      checks = checks;
+      stated = stated-agrees;
+      printed = printed-agrees;
     }
 
 -- ---- the code
 pub code : {M : Type 1} → Code M
-code = record { account = account-met; hour = hour-met; survey = governing-met; import = import-met }
+code = record { account = account-met; hour = hour-met; survey = governing-met; import = import-met; check = check-met; filed = filed-text-met }

@@ -5,5 +5,7 @@ pub mod Rows
 pub mod DayBytes
 pub mod Walked
 pub mod Imports
+pub mod Filings
+pub mod Printed
 pub mod Demands
 pub mod Refuted

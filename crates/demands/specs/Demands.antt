@@ -3,7 +3,7 @@ use Prim.Native.Nat.{ℕ, _+_, _-_, _*_, _/_, _^_, _≤_, _<_}
 use mathlib.Core.{Bool.Bool, Bool.true, Bool.false, List.List, List._∷_, List._++_, Logic._↔_, Logic._⊎_, Path._≡_}
 use lib.{ListN.length, ListN.take, ListN.drop, ListN.getD, Ieee.Exact.HasValue}
 use denote.Ref.{RefT, ptr, now}
-use Rattle.law.specs.Numbers.{mostHours, rowCells}
+use Rattle.law.specs.Numbers.{mostHours, rowCells, totalCells}
 use Rattle.reading.specs.{declared.Hour.Hour, Reading.reading, Reading.allowed, Reading.exact, Reading.rounded}
 use Rattle.rules.specs.{declared.Head.Head, declared.Answer.Answer, Hours.lacking, Lines.StackLine, Outfalls.OutfallLine, Outfalls.Line, Outfalls.OfStack, Measured.Measured, Grams.automatic, Grams.manual, Outfalls.headOfLine, Lines.surveyed, Lines.daysAfter, Alone.noneMissing, Alone.daysAlone, Grams.gramsOf, Row.rowOf, Walk.Accepted, Walk.outcome, Account.Promise}
 use Rattle.answers.specs.{Heads.headsOf, Places.ofField, Places.PointsAt}
@@ -16,7 +16,11 @@ use Rattle.survey.proofs.governing_survey.Statement.{statement as governingMeet
 use Rattle.import.proofs.import_days.Statement.{statement as importMeets}
 use Rattle.nearest.specs.Nearest.{Nearest}
 use Rattle.import.specs.Grammar.{FormedAs}
+use Rattle.filed.proofs.check_filed.Statement.{statement as checkMeets}
+use Rattle.filed.proofs.filed_text.Statement.{statement as filedTextMeets}
+use Rattle.filed.specs.declared.Verdict.the-variants.{Agrees}
 use Rattle.demands.specs.Imports.{BringsIn}
+use Rattle.demands.specs.Filings.{Filing, Meets, Checks, PrintedAgrees}
 
 -- what an account call is lent: a file, cells for rows, and a work table each for concentration and flow; what it answers, and what the slices hold then
 abbrev pub Call : Type 0
@@ -138,10 +142,19 @@ pub record Demands : Type 0 where
   -- OVER THE DECIMALS: the reading nearest to n / scale is rounded back to n, at every scale that is fine enough below 2^j; two decimals and none are its
   -- instances, by 100 and 1
   pub decimals : (n scale j bits : ℕ) → n < scale * 2 ^ j → scale * 2 ^ j < 2 ^ 24 → Nearest n scale bits → rounded scale (reading bits) ≡ n
+  -- A FILING (A6), any rows and five totals beside any file: one answer and no second; it agrees exactly where rows and totals are those of document 01; where a
+  -- row and field is named, that cell differs and every cell before it is right, with the right value; refused by the file's own number, or by 22 (read `Checks`)
+  pub checks : (x : Filing) → length (x .totals) ≡ totalCells → Checks x
+  -- what the account call states agrees, for every file that it accepts; and so does what the program prints
+  pub stated : (c : Call) (r : Result) → Kept c r → r .answer .number ≡ 0
+      → Meets (record { file = c .file; rows = take (rowCells * r .answer .rows) (r .rows); totals = r .answer .totals }) Agrees
+  pub printed : (file : List ℕ) → PrintedAgrees file
 
--- THE CODE: each call itself, as it is compiled, meets the contract that stands at it in src/ (`Promise`, `panelStep`, `governing`, and `Promise` of the import), in every model of the machine
+-- THE CODE: each call itself, as it is compiled, meets the contract that stands at it in src/ (`Promise`, `panelStep`, `governing`, `Promise` of the import, `checked` and `said`), in every model of the machine
 pub record Code (M : Type 1) : Type 2 where
   pub account : accountMeets M
   pub hour : hourMeets M
   pub survey : governingMeets M
   pub import : importMeets M
+  pub check : checkMeets M
+  pub filed : filedTextMeets M

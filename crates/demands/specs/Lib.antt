@@ -1,3 +1,4 @@
 -- The demands, on one page.
 pub mod Imports
+pub mod Filings
 pub mod Demands
