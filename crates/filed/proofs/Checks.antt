@@ -50,11 +50,11 @@ module _ (file : List ℕ) (a : Answer) (t : List ℕ) (w : Accounted file a t) 
 
   pub checked-own : (rows totals : List ℕ) → (a .number ≡ 0 → ⊥) → refusedWith (record { number = a .number; place = a .place }) ≡ checked file rows totals
   unfolding checked against
-  checked-own rows totals n = rw (own n)
+  checked-own rows totals n = sym (ap (against rows totals) (own n))
 
   pub text-own : (text : List ℕ) → (a .number ≡ 0 → ⊥) → refusedWith (record { number = a .number; place = a .place }) ≡ checkedText file text
   unfolding checkedText againstRead
-  text-own text n = rw (own n)
+  text-own text n = sym (ap (againstRead (readOf text)) (own n))
 
   module _ (z : a .number ≡ 0) where
     abbrev lines : List Line
@@ -84,8 +84,8 @@ module _ (file : List ℕ) (a : Answer) (t : List ℕ) (w : Accounted file a t) 
     unfolding againstLines need
     count-wrong rows totals n = rw (ne-eqb (length rows) (rowCells * length lines) n)
 
-    pub checked-count : (rows totals : List ℕ) → (length rows ≡ rowCells * a .rows → ⊥) → refusedWith (refuse 22 0) ≡ checked file rows totals
-    checked-count rows totals n = count-wrong rows totals (λ e. n (omega (arith, rows-are))) ∙ sym (checked-is rows totals)
+    pub checked-count : (rows totals : List ℕ) → (length rows ≡ rowCells * a .rows → ⊥) → (r : OnPaper) → r ≡ refusedWith (refuse 22 0) → r ≡ checked file rows totals
+    checked-count rows totals n r h = h ∙ count-wrong rows totals (λ e. n (omega (arith, rows-are))) ∙ sym (checked-is rows totals)
 
     -- as many cells as there should be: they are compared
     pub checked-cells : (rows totals : List ℕ) (n : ℕ) → n ≡ rowCells * a .rows → length rows ≡ n → (r : OnPaper)
@@ -100,9 +100,9 @@ module _ (file : List ℕ) (a : Answer) (t : List ℕ) (w : Accounted file a t) 
     -- a text as it was read
     module _ (text rows : List ℕ) (f : Filing) (rows' : List ℕ) (p : Reads text rows f rows') where
       -- refused, with its own number and line
-      pub text-refused : (f .number ≡ 0 → ⊥) → refusedWith (record { number = f .number; place = f .line }) ≡ checkedText file text
+      pub text-refused : (f .number ≡ 0 → ⊥) → (r : OnPaper) → r ≡ refusedWith (record { number = f .number; place = f .line }) → r ≡ checkedText file text
       unfolding checkedText againstRead need refuse
-      text-refused n = rw (p .numbers, p .lines, accepted, ne-eqb (readOf text .number) 0 (λ e. n (p .numbers ∙ e)))
+      text-refused n r h = h ∙ rw (p .numbers, p .lines, accepted, ne-eqb (readOf text .number) 0 (λ e. n (p .numbers ∙ e)))
 
       module _ (e : f .number ≡ 0) where
         text-is : checkedText file text ≡ againstLines (readOf text .cells) (readOf text .totals) lines
@@ -110,8 +110,8 @@ module _ (file : List ℕ) (a : Answer) (t : List ℕ) (w : Accounted file a t) 
         text-is = rw (accepted, eq-eqb (readOf text .number) 0 (sym (p .numbers) ∙ e))
 
         -- with more cells than any account has
-        pub text-long : mostCells < f .count → refusedWith (refuse 22 0) ≡ checkedText file text
-        text-long l = count-wrong (readOf text .cells) (readOf text .totals) (λ q. omega (arith, few, p .counts)) ∙ sym text-is
+        pub text-long : mostCells < f .count → (r : OnPaper) → r ≡ refusedWith (refuse 22 0) → r ≡ checkedText file text
+        text-long l r h = h ∙ count-wrong (readOf text .cells) (readOf text .totals) (λ q. omega (arith, few, p .counts)) ∙ sym text-is
 
         -- with no more: its cells are checked
         pub text-checked : f .count ≤ length rows → (r : OnPaper) → r ≡ checked file (take (f .count - 0) (drop 0 rows')) (f .totals) → r ≡ checkedText file text

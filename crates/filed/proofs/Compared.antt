@@ -77,22 +77,22 @@ module _ (rows right totals sums : List ℕ) (e : length rows ≡ length right) 
 
 -- rows, and then five totals, beside the right ones
 module _ (rows right totals sums : List ℕ) (e : length rows ≡ length right) (k : ℕ) (w : FirstWrong rows right k) where
-  pub says-row : k < length right → compared (rows ++ totals) (right ++ sums) ≡ says (k / rowCells ∷ k % rowCells ∷ [])
-  says-row l = compared-wrong _ _ k (wrong-in-front rows right totals sums e k w l) (omega (arith, length-append right sums))
+  pub says-row : k < length right → (p : OnPaper) → p ≡ says (k / rowCells ∷ k % rowCells ∷ []) → p ≡ compared (rows ++ totals) (right ++ sums)
+  says-row l p q = q ∙ sym (compared-wrong _ _ k (wrong-in-front rows right totals sums e k w l) (omega (arith, length-append right sums)))
 
   module _ (r : length right ≤ k) (i : ℕ) (v : FirstWrong totals sums i) where
     behind : FirstWrong (rows ++ totals) (right ++ sums) (length right + i)
     behind = let q : k ≡ length right = omega (arith, w .within) in wrong-behind rows right totals sums e i (subst (FirstWrong rows right) q w) v
 
-    pub says-total : (lines : ℕ) → length right ≡ rowCells * lines → i < length sums → length sums ≤ rowCells
-        → compared (rows ++ totals) (right ++ sums) ≡ says (length right / rowCells ∷ i ∷ [])
-    says-total lines q l m =
+    pub says-total : (lines : ℕ) → length right ≡ rowCells * lines → i < length sums → length sums ≤ rowCells → (p : OnPaper)
+        → p ≡ says (length right / rowCells ∷ i ∷ []) → p ≡ compared (rows ++ totals) (right ++ sums)
+    says-total lines q l m p s =
         let row : (length right + i) / rowCells ≡ length right / rowCells = omega arith in
         let field : (length right + i) % rowCells ≡ i = omega arith in
-        compared-wrong _ _ _ behind (omega (arith, length-append right sums)) ∙ rw (row, field)
+        s ∙ sym (compared-wrong _ _ _ behind (omega (arith, length-append right sums)) ∙ rw (row, field))
 
-    pub says-yes : length sums ≤ i → compared (rows ++ totals) (right ++ sums) ≡ says []
-    says-yes l = compared-yes _ _ _ behind (omega (arith, length-append right sums))
+    pub says-yes : length sums ≤ i → (p : OnPaper) → p ≡ says [] → p ≡ compared (rows ++ totals) (right ++ sums)
+    says-yes l p s = s ∙ sym (compared-yes _ _ _ behind (omega (arith, length-append right sums)))
 
 -- some cell is the first that is wrong, or none is
 first-on : (filed right : List ℕ) (n : ℕ) → n < length right → ((j : ℕ) → j < n → getD filed j 0 ≡ getD right j 0)

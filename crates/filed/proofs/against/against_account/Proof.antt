@@ -1,7 +1,7 @@
 -- `against::against_account` meets its contract: another number of cells, or compared. Assumes nothing.
 use Prim.Native.Nat.{_*_}
 use borrow.Author.Needs.{needs}
-use mathlib.Core.Path.{refl, sym, _∙_}
+use mathlib.Core.Path.{refl}
 use native.Mathlib.Omega.{arith}
 use Rattle.law.specs.Numbers.{rowCells}
 use Rattle.rules.specs.Judge.{refuse}
@@ -12,7 +12,7 @@ use Rattle.filed.proofs.against.against_account.Tie as tie
 
 returns : tie.Need-returns
 unfolding verdictOnPaper refuse
-returns c = let s = c .before .before .before .before in λ file w. checked-count file _ _ w (s .pre .0) _ _ (c .if1 .taken)
+returns c = let s = c .before .before .before .before in λ file w. checked-count file _ _ w (s .pre .0) _ _ (λ e. c .if1 .taken e) _ refl
 
 verdict-of-requires : tie.Need-verdict-of-requires
 verdict-of-requires c κs =
@@ -20,13 +20,13 @@ verdict-of-requires c κs =
     let s = e .before .before .before .before in
     let w = s .args .w in
     let l = front-long (w .rows) (rowCells * w .answer .rows) (omega arith) in
-    (e .if1 .left ∙ sym l, (w .answer .rows, l))
+    (omega arith, (w .answer .rows, l))
 
 returns-2 : tie.Need-returns-2
 returns-2 c =
     let e = c .before .before .before .before .before .before in
     let s = e .before .before .before .before in
-    λ file w. checked-cells file _ _ w (s .pre .0) _ _ _ refl (e .if1 .left) _ (c .verdict-of .ensures)
+    λ file w. checked-cells file _ _ w (s .pre .0) _ _ _ refl (omega arith) _ (c .verdict-of .ensures)
 
 pub against-account-spec : {M : Type 1} → statement M
 against-account-spec =

@@ -1,6 +1,6 @@
 -- `compare::verdict_of` meets its contract: a wrong cell in the rows, one in the totals, or none. Assumes nothing.
 use borrow.Author.Needs.{needs}
-use mathlib.Core.Path.{sym}
+use mathlib.Core.Path.{refl}
 use native.Mathlib.Omega.{arith}
 use Rattle.filed.specs.Filed.{verdictOnPaper}
 use Rattle.filed.proofs.Compared.{says-row, says-total, says-yes}
@@ -9,7 +9,7 @@ use Rattle.filed.proofs.compare.verdict_of.Tie as tie
 
 returns : tie.Need-returns
 unfolding verdictOnPaper
-returns c = let w = c .before in sym (says-row _ _ _ _ (w .before .before .before .pre .0) _ (w .first-wrong .ensures) (c .if1 .taken))
+returns c = let w = c .before in says-row _ _ _ _ (w .before .before .before .pre .0) _ (w .first-wrong .ensures) (c .if1 .taken) _ refl
 
 returns-2 : tie.Need-returns-2
 unfolding verdictOnPaper
@@ -18,7 +18,7 @@ returns-2 c =
     let e = t .before .before .before in
     let w = e .before in
     let l = w .before .before .before .pre .1 in
-    sym (says-total _ _ _ _ (w .before .before .before .pre .0) _ (w .first-wrong .ensures) (e .if1 .left) _ (t .first-wrong2 .ensures) (l .0) (l .1) (omega arith) (omega arith))
+    says-total _ _ _ _ (w .before .before .before .pre .0) _ (w .first-wrong .ensures) (e .if1 .left) _ (t .first-wrong2 .ensures) (l .0) (l .1) (omega arith) (omega arith) _ refl
 
 returns-3 : tie.Need-returns-3
 unfolding verdictOnPaper
@@ -26,7 +26,7 @@ returns-3 c =
     let t = c .before in
     let e = t .before .before .before in
     let w = e .before in
-    sym (says-yes _ _ _ _ (w .before .before .before .pre .0) _ (w .first-wrong .ensures) (e .if1 .left) _ (t .first-wrong2 .ensures) (omega arith))
+    says-yes _ _ _ _ (w .before .before .before .pre .0) _ (w .first-wrong .ensures) (e .if1 .left) _ (t .first-wrong2 .ensures) (omega arith) _ refl
 
 pub verdict-of-spec : {M : Type 1} → statement M
 verdict-of-spec =

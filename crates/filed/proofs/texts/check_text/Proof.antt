@@ -1,6 +1,6 @@
 -- `texts::check_text` meets its contract: the file's own refusal, the text's, too many cells, or checked. Assumes nothing.
 use borrow.Author.Needs.{needs}
-use mathlib.Core.Path.{_∙_}
+use mathlib.Core.Path.{refl, _∙_}
 use native.Mathlib.Omega.{arith}
 use Rattle.rules.specs.Judge.{refuse}
 use Rattle.filed.specs.Filed.{verdictOnPaper}
@@ -19,7 +19,7 @@ returns-2 c =
     let r = c .before .before .before in
     let e = r .before .before in
     let w = e .before .before .before in
-    text-refused _ _ _ (w .account-of .ensures) (e .if1 .left) _ _ _ _ (r .read-filing .ensures) (c .if2 .taken)
+    text-refused _ _ _ (w .account-of .ensures) (e .if1 .left) _ _ _ _ (r .read-filing .ensures) (c .if2 .taken) _ refl
 
 returns-3 : tie.Need-returns-3
 unfolding verdictOnPaper refuse
@@ -28,7 +28,7 @@ returns-3 c =
     let r = f .before .before .before in
     let e = r .before .before in
     let w = e .before .before .before in
-    text-long _ _ _ (w .account-of .ensures) (e .if1 .left) _ _ _ _ (r .read-filing .ensures) (f .if2 .left) (c .if3 .taken)
+    text-long _ _ _ (w .account-of .ensures) (e .if1 .left) _ _ _ _ (r .read-filing .ensures) (f .if2 .left) (c .if3 .taken) _ refl
 
 against-account-requires : tie.Need-against-account-requires
 against-account-requires c κs =
