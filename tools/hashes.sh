@@ -1,5 +1,5 @@
 #!/usr/bin/env bash
-# Builds what ships and prints which toolchain built it and the sha256 of each: the two programs and the static library.
+# Builds what ships and prints which toolchain built it and the sha256 of each: the three programs and the static library.
 #
 # usage: tools/hashes.sh            builds here; what is proved already is not proved again
 #        tools/hashes.sh --check    compares with docs/TRUST.md, and ends with 1 where a line is not there
@@ -8,13 +8,13 @@
 set -eu
 cd "$(dirname "$0")/.."
 page=docs/TRUST.md
-ships='target/bin/account target/bin/historian target/staticlib/libdoarpezwim.a'
+ships='target/bin/account target/bin/historian target/bin/checker target/staticlib/libdoarpezwim.a'
 
 # Proves and builds in the folder it stands in; only what goes wrong is said.
 build() {
     local said
     said=$(mktemp)
-    { rt check account historian && rt staticlib doarpezwim; } >"$said" 2>&1 || { cat "$said" >&2; rm -f "$said"; return 1; }
+    { rt check account historian checker && rt staticlib doarpezwim; } >"$said" 2>&1 || { cat "$said" >&2; rm -f "$said"; return 1; }
     rm -f "$said"
 }
 
