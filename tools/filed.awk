@@ -146,9 +146,12 @@ function over(   k, i, first) {
     if (malformed() != "") return ""
     k = cut(place)
     first = cell[1] == "total" ? 2 : 1
-    for (i = first; i < k && length(cell[i]) < 20; i++) continue
-    return length(cell[i]) < 20 ? "" : "its number " (i - first + 1) " has " length(cell[i]) " digits, leading zeros aside, and may have 19"
+    for (i = first; i < k && fits(cell[i]); i++) continue
+    return fits(cell[i]) ? "" : "its number " (i - first + 1) " is over 18,446,744,073,709,551,615"
 }
+
+# At most 2^64 - 1, by its digits, of which leading zeros are gone.
+function fits(number) { return length(number) < 20 || length(number) == 20 && number "" <= "18446744073709551615" }
 
 # ---- the line, cut where it is long; a byte that is not printed, and the backslash, by its number
 
