@@ -1,6 +1,6 @@
 -- What the edits in must-fail/ say is not only refused but false, each shown here by a case: half_the_allowance, next_line, next_head, rows_unwritten,
--- alone_does. Assumes nothing.
-use mathlib.Core.Path.{_≡_, refl, ap}
+-- alone_does, named_cell_right, any_totals. Assumes nothing.
+use mathlib.Core.Path.{_≡_, refl, sym, ap, _∙_}
 use mathlib.Core.Bool.{false}
 use mathlib.Core.List.{List, [], _∷_, _++_, List·Memᴰ, List·Memᴰ·head}
 use Prim.Native.Nat.{ℕ, _+_, _-_, _*_, _/_, _^_, _≤_, _<_}
@@ -8,14 +8,18 @@ use native.Mathlib.Omega.{arith}
 use lib.ListN.{length, take, drop, getD, replicate}
 use lib.Dec.{leb}
 use borrow.Author.Tests.{leb-false}
-use Rattle.law.specs.Numbers.{perGram}
+use Rattle.law.specs.Numbers.{perGram, rowCells}
 use Rattle.law.specs.Words.{apart}
-use Rattle.rules.specs.{declared.Head.Head, Lines.StackLine, Outfalls.Line, Outfalls.OfStack, Outfalls.OfOutfall, Outfalls.headOfLine, Measured.ofStack, Method.method, Grams.grams, Row.rowOf, Walk.Outcome, Walk.Refused, Walk.Accepted, Walk.begun, Walk.noHead, Walk.outcome, Opened.rules}
+use Rattle.rules.specs.{declared.Head.Head, Lines.StackLine, Outfalls.Line, Outfalls.OfStack, Outfalls.OfOutfall, Outfalls.headOfLine, Measured.ofStack, Method.method, Grams.grams, Row.rowOf, Row.rowsOf, Row.totalsOf, Walk.Outcome, Walk.Refused, Walk.Accepted, Walk.begun, Walk.noHead, Walk.outcome, Opened.rules}
 use Rattle.answers.specs.Heads.{headsWith, headsIn, headsOf}
 use Rattle.allowance.specs.Exact.{exactFill, exactAutomatic}
 use Rattle.allowance.specs.Allowance.{inAir, automaticAllowance}
 use Rattle.allowance.specs.Opened.{allowances}
 use Rattle.figures.specs.Example.{example}
+use Rattle.filed.specs.declared.Verdict.the-variants.{Agrees, Wrong}
+use Rattle.filed.specs.Opened.{checks}
+use Rattle.filed.proofs.Only.{check-only}
+use Rattle.demands.specs.Filings.{Filing, Meets}
 use Rattle.demands.specs.Demands.{Version, Keeps, Taken, Call, Lent, RefusesAll, EveryRowNear}
 use Rattle.demands.proofs.Falsity.{differ}
 use Rattle.demands.proofs.Files.{second, two, callOf, lent-all, given-all}
@@ -97,3 +101,29 @@ not-unwritten h = let w = demands .two resultOf (λ c l. kept c) .0 .writes in w
 -- demand 3 alone claimed to shut out what refuses everything
 not-alone : ((v : Version) → RefusesAll v → EveryRowNear v → ⊥) → ⊥
 not-alone h = h (demands .alone .0 .0) (demands .alone .0 .1) (demands .alone .1 (demands .alone .0 .0) (demands .alone .0 .1) .0)
+
+-- ---- a filing beside the empty file, with a total that is not 0
+abbrev wrongTotal : Filing
+wrongTotal = record { file = []; rows = []; totals = 1 ∷ 0 ∷ 0 ∷ 0 ∷ 0 ∷ [] }
+
+record WrongTotal : Type 0 where
+  accepted : outcome [] ≡ Accepted []
+  none : rowsOf [] ≡ []
+  named : Meets wrongTotal (Wrong 0 0)
+  right : getD (rowsOf [] ++ totalsOf []) 0 0 ≡ 0
+
+wrong-total : WrongTotal
+unfolding checks
+wrong-total = record { accepted = refl; none = refl; named = refl; right = refl }
+
+-- the named cell claimed to be right too
+not-also-right : ((x : Filing) (row field : ℕ) → Meets x (Wrong row field) → (lines : List Line) → outcome (x .file) ≡ Accepted lines
+    → (i : ℕ) → i ≤ rowCells * row + field → getD (x .rows ++ x .totals) i 0 ≡ getD (rowsOf lines ++ totalsOf lines) i 0) → ⊥
+not-also-right h = let e = h wrongTotal 0 0 (wrong-total .named) [] (wrong-total .accepted) 0 (omega arith) ∙ wrong-total .right in omega (arith, e)
+
+-- yes claimed of any totals
+not-any-totals : ((x : Filing) (lines : List Line) → outcome (x .file) ≡ Accepted lines → x .rows ≡ rowsOf lines → Meets x Agrees) → ⊥
+not-any-totals h =
+    let e = check-only [] [] (wrongTotal .totals) Agrees (Wrong 0 0) (h wrongTotal [] (wrong-total .accepted) (sym (wrong-total .none))) (wrong-total .named) in
+    let z : _≡_ {A = ℕ} 0 1 = cc in
+    omega (arith, z)
