@@ -7,5 +7,5 @@ pub mod Heads
 pub mod Silent
 pub mod Wrong
 pub mod Places
-pub mod Three
+pub mod Never
 pub mod Running

@@ -26,7 +26,7 @@ use Rattle.rules.proofs.Surveyed.{days-no-more}
 use Rattle.rules.specs.Account.{refusal, acceptance, answerOf, rowsAfter, workAfter}
 use Rattle.answers.proofs.Answers.{stated}
 use Rattle.answers.proofs.Places.{answer-points}
-use Rattle.answers.proofs.Three.{never-three}
+use Rattle.answers.proofs.Never.{never-three}
 use Rattle.answers.proofs.Running.{accepted-alone}
 use Rattle.answers.specs.Places.{ofField, PointsAt}
 use Rattle.answers.proofs.Only.{promise-only}
