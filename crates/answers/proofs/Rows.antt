@@ -10,12 +10,12 @@ use Rattle.rules.specs.Outfalls.{Line, OfStack, OfOutfall}
 use Rattle.rules.specs.Grams.{gramsOf}
 use Rattle.rules.specs.Row.{stackRow, outfallRow, rowOf, rowsOf}
 
-row-long : (x : Line) → length (rowOf x) ≡ 7
+pub row-long : (x : Line) → length (rowOf x) ≡ 7
 unfolding rowOf stackRow outfallRow
 row-long (OfStack x) = refl
 row-long (OfOutfall x) = refl
 
-rows-written : (lines : List Line) → rowsOf lines ≡ written rowOf lines
+pub rows-written : (lines : List Line) → rowsOf lines ≡ written rowOf lines
 unfolding rowsOf written
 rows-written [] = refl
 rows-written (x ∷ xs) = ap (λ (cells : List ℕ). cells ++ rowOf x) (rows-written xs)

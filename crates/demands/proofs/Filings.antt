@@ -23,6 +23,7 @@ use Rattle.rules.specs.Account.{acceptance}
 use Rattle.rules.specs.Walk.{Outcome, Refused, Accepted, outcome}
 use Rattle.answers.proofs.Answers.{stated}
 use Rattle.answers.proofs.Rows.{rows-long, row-of}
+use Rattle.answers.proofs.Never.{Ungiven, outcome-never, ungiven-8, ungiven-9}
 use Rattle.filed.specs.declared.Verdict.{Verdict}
 use Rattle.filed.specs.declared.Verdict.the-variants.{Agrees, Wrong, Refused as Unchecked}
 use Rattle.filed.specs.Filed.{verdictOnPaper, refusedWith, withTotals, compared, againstLines, against, checked}
@@ -196,8 +197,17 @@ module _ (x : Filing) where
     unfolding verdictOnPaper
     refused-for f m = refused-by _ f refl (case-of _ m)
 
+    -- not with a number that no record gives, unless it is 22
+    never-by : (n : ℕ) → Ungiven n → (22 ≡ n → ⊥) → (f : Fault) → RefusedBy x f → f .number ≡ n → ⊥
+    unfolding refuse
+    never-by n u d f (inl o) z = outcome-never n u (x .file) f o z
+    never-by n u d f (inr (lines, o, e, m)) z = d (sym (ap (λ (g : Fault). g .number) e) ∙ z)
+
+    never-for : (f : Fault) → Meets x (Unchecked f) → (f .number ≡ 8 → ⊥) × (f .number ≡ 9 → ⊥)
+    never-for f m = let r = refused-for f m in (never-by 8 ungiven-8 (λ z. omega (arith, z)) f r, never-by 9 ungiven-9 (λ z. omega (arith, z)) f r)
+
     pub checks : Checks x
-    checks = record { one = one-answer; yes = yes-right; wrong = wrong-first; refused = refused-for }
+    checks = record { one = one-answer; yes = yes-right; wrong = wrong-first; refused = refused-for; never = never-for }
 
 -- ---- what the account call states is a filing that agrees
 pub stated-agrees : (c : Call) (r : Result) → Kept c r → r .answer .number ≡ 0

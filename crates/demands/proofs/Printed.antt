@@ -1,17 +1,17 @@
 -- What the program `account` prints is a filing of which `checker` says yes. Assumes nothing.
-use mathlib.Core.Path.{_≡_, refl, sym, ap, ap₂, _∙_}
+use mathlib.Core.Path.{_≡_, refl, sym, ap, _∙_}
 use mathlib.Core.List.{List, [], _∷_, _++_}
-use Prim.Native.Nat.{ℕ, zero, suc, _+_, _*_, _^_, _<_, _≤_}
+use Prim.Native.Nat.{ℕ, suc, _*_, _^_, _<_, _≤_}
 use native.Mathlib.Omega.{arith}
 use lib.ListN.{length, getD, length-append}
-use Rattle.law.specs.Numbers.{rowCells, totalCells}
 use Rattle.law.specs.Words.{need}
-use Rattle.law.proofs.Each.{Each, each-none, each-more}
+use Rattle.law.proofs.Each.{Each, each-none, each-more, each-first, each-last}
 use Rattle.law.proofs.Newest.{written}
-use Rattle.rules.specs.Outfalls.{Line, OfStack, OfOutfall}
-use Rattle.rules.specs.Row.{stackRow, outfallRow, rowOf, rowsOf, totalsOf}
+use Rattle.rules.specs.Outfalls.{Line}
+use Rattle.rules.specs.Row.{rowOf, rowsOf, totalsOf}
 use Rattle.rules.specs.Walk.{Accepted, outcome}
 use Rattle.answers.proofs.Walks.{accepted-48}
+use Rattle.answers.proofs.Rows.{row-long, rows-written}
 use Rattle.text.specs.Numbers.{spaced}
 use Rattle.text.specs.Line.{totalsLine, yesLine}
 use Rattle.text.proofs.Spaced.{spaced-most}
@@ -25,33 +25,15 @@ use Rattle.filed.proofs.Saying.{not-long}
 use Rattle.demands.specs.Filings.{Filing, Right, PrintedAgrees}
 use Rattle.demands.proofs.Filings.{totals-long, yes-if}
 
-row-long : (x : Line) → length (rowOf x) ≡ rowCells
-unfolding rowOf stackRow outfallRow
-row-long (OfStack x) = refl
-row-long (OfOutfall x) = refl
-
-rows-written : (lines : List Line) → rowsOf lines ≡ written rowOf lines
-unfolding rowsOf written
-rows-written [] = refl
-rows-written (x ∷ xs) = ap (λ (cells : List ℕ). cells ++ rowOf x) (rows-written xs)
-
 -- ---- numbers that 64 bits hold
 all-below : (s : List ℕ) → ((i : ℕ) → getD s i 0 < 2 ^ 64) → Each (λ n. n < filedLimit) s
 all-below [] h = each-none
 all-below (n ∷ s) h = each-more (h 0) (all-below s (λ i. h (suc i)))
 
-each-first : {P : ℕ → Type 0} (xs ys : List ℕ) → Each P (xs ++ ys) → Each P xs
-each-first [] ys e = each-none
-each-first (x ∷ xs) ys (each-more p e) = each-more p (each-first xs ys e)
-
-each-last : {P : ℕ → Type 0} (xs ys : List ℕ) → Each P (xs ++ ys) → Each P ys
-each-last [] ys e = e
-each-last (x ∷ xs) ys (each-more p e) = each-last xs ys e
-
 each-row : (lines : List Line) → Each (λ n. n < filedLimit) (rowsOf lines) → Each (λ x. Filed 7 (rowOf x)) lines
 unfolding rowsOf
 each-row [] e = each-none
-each-row (x ∷ xs) e = each-more (record { long = row-long x; each = each-last (rowsOf xs) (rowOf x) e }) (each-row xs (each-first (rowsOf xs) (rowOf x) e))
+each-row (x ∷ xs) e = each-more (record { long = row-long x; each = each-last _ (rowsOf xs) (rowOf x) e }) (each-row xs (each-first _ (rowsOf xs) (rowOf x) e))
 
 -- ---- the printed text
 lines-text : (lines : List Line) → rowLines lines ≡ textOf rowOf lines
@@ -91,8 +73,8 @@ module _ (file : List ℕ) (lines : List Line) (o : outcome file ≡ Accepted li
   read-is =
       let each = all-below (rowsOf lines ++ totalsOf lines) fit in
       ap readOf printed-is
-      ∙ read-back rowOf lines (totalsOf lines) (each-row lines (each-first (rowsOf lines) (totalsOf lines) each))
-      (record { long = totals-long lines; each = each-last (rowsOf lines) (totalsOf lines) each })
+      ∙ read-back rowOf lines (totalsOf lines) (each-row lines (each-first _ (rowsOf lines) (totalsOf lines) each))
+      (record { long = totals-long lines; each = each-last _ (rowsOf lines) (totalsOf lines) each })
       ∙ ap (λ (cells : List ℕ). record { number = 0; line = 0; cells = cells; totals = totalsOf lines }) (sym (rows-written lines))
 
   checked-is : checkedText file (printed file) ≡ checked file (rowsOf lines) (totalsOf lines)

@@ -52,6 +52,8 @@ pub record Checks (x : Filing) : Type 0 where
   pub yes : Meets x Agrees ↔ Right x
   pub wrong : (row field : ℕ) → Meets x (Wrong row field) → FirstDiffers x row field
   pub refused : (f : Fault) → Meets x (Unchecked f) → RefusedBy x f
+  -- "8 and 9 never"
+  pub never : (f : Fault) → Meets x (Unchecked f) → (f .number ≡ 8 → ⊥) × (f .number ≡ 9 → ⊥)
 
 -- what the program `account` prints for a file is a filing of which the program `checker` says yes: of an accepted file that the programs take, whose figures
 -- 64 bits hold

@@ -20,6 +20,14 @@ module _ {A : Type 0} where
     each-joined f i zero e = each-none
     each-joined f i (suc n) e = each-append (e i (omega arith)) (each-joined f (suc i) n (λ k l. e k (omega arith)))
 
+    pub each-first : (xs ys : List A) → Each P (xs ++ ys) → Each P xs
+    each-first [] ys e = each-none
+    each-first (x ∷ xs) ys (each-more p e) = each-more p (each-first xs ys e)
+
+    pub each-last : (xs ys : List A) → Each P (xs ++ ys) → Each P ys
+    each-last [] ys e = e
+    each-last (x ∷ xs) ys (each-more p e) = each-last xs ys e
+
     -- a claim that follows from it
     pub each-so : (Q : A → Type 0) → ((x : A) → P x → Q x) → {xs : List A} → Each P xs → Each Q xs
     each-so Q f each-none = each-none
