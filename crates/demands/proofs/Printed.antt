@@ -4,6 +4,7 @@ use mathlib.Core.List.{List, [], _∷_, _++_}
 use Prim.Native.Nat.{ℕ, suc, _*_, _^_, _<_, _≤_}
 use native.Mathlib.Omega.{arith}
 use lib.ListN.{length, getD, length-append}
+use Rattle.law.specs.Numbers.{mostBytes}
 use Rattle.law.specs.Words.{need}
 use Rattle.law.proofs.Each.{Each, each-none, each-more, each-first, each-last}
 use Rattle.law.proofs.Newest.{written}
@@ -46,13 +47,13 @@ unfolding rowLines
 lines-most [] = omega arith
 lines-most (x ∷ xs) = omega (arith, lines-most xs, length-append (rowLines xs) (spaced (rowOf x)), spaced-most (rowOf x), row-long x)
 
-module _ (file : List ℕ) (lines : List Line) (o : outcome file ≡ Accepted lines) (short : length file ≤ 65_536)
+module _ (file : List ℕ) (lines : List Line) (o : outcome file ≡ Accepted lines) (short : length file ≤ mostBytes)
     (fit : (i : ℕ) → getD (rowsOf lines ++ totalsOf lines) i 0 < 2 ^ 64) where
   printed-is : printed file ≡ textOf rowOf lines ++ totalsLine (totalsOf lines)
   unfolding printedFrom totalLine
   printed-is = sym (printing.not-long file short) ∙ ap printedFrom o ∙ ap (λ (t : List ℕ). t ++ totalsLine (totalsOf lines)) (lines-text lines)
 
-  printed-most : length (printed file) ≤ 65_536
+  printed-most : length (printed file) ≤ mostBytes
   unfolding totalsLine
   printed-most =
       let t = totalsLine (totalsOf lines) in

@@ -4,7 +4,7 @@ use mathlib.Core.List.{List, _++_}
 use mathlib.Core.Logic.{_↔_, _⊎_}
 use mathlib.Core.Path.{_≡_}
 use lib.ListN.{length, getD}
-use Rattle.law.specs.Numbers.{rowCells, totalCells}
+use Rattle.law.specs.Numbers.{rowCells, totalCells, mostBytes}
 use Rattle.rules.specs.{declared.Fault.Fault, Judge.refuse, Outfalls.Line, Row.rowOf, Row.rowsOf, Row.totalOf, Row.totalsOf, Walk.Refused, Walk.Accepted, Walk.outcome}
 use Rattle.text.specs.Line.{yesLine}
 use Rattle.printed.specs.Program.{printed}
@@ -58,5 +58,5 @@ pub record Checks (x : Filing) : Type 0 where
 -- what the program `account` prints for a file is a filing of which the program `checker` says yes: of an accepted file that the programs take, whose figures
 -- 64 bits hold
 abbrev pub PrintedAgrees : List ℕ → Type 0
-PrintedAgrees file = (lines : List Line) → outcome file ≡ Accepted lines → length file ≤ 65_536 → ((i : ℕ) → getD (rowsOf lines ++ totalsOf lines) i 0 < 2 ^ 64)
+PrintedAgrees file = (lines : List Line) → outcome file ≡ Accepted lines → length file ≤ mostBytes → ((i : ℕ) → getD (rowsOf lines ++ totalsOf lines) i 0 < 2 ^ 64)
     → said file (printed file) ≡ yesLine

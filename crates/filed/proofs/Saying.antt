@@ -3,6 +3,7 @@ use mathlib.Core.Path.{_≡_, refl, _∙_}
 use mathlib.Core.List.{List, []}
 use Prim.Native.Nat.{ℕ, _<_, _≤_}
 use lib.ListN.{length}
+use Rattle.law.specs.Numbers.{mostBytes}
 use Rattle.law.specs.Words.{need, needAll}
 use Rattle.law.proofs.Tests.{need-le, need-not-le}
 use Rattle.rules.specs.Judge.{refuse}
@@ -16,14 +17,14 @@ pub text-of : (xs ys old new : List ℕ) (r : ℕ) → xs ≡ ys → Text xs old
 text-of xs ys old new r e t = (text-as xs ys old new r e t, text-within xs old new r t)
 
 module _ (file text : List ℕ) where
-  pub long-file : 65_536 < length file → refusedLine (refuse 13 0) ≡ said file text
+  pub long-file : mostBytes < length file → refusedLine (refuse 13 0) ≡ said file text
   unfolding said needAll
-  long-file l = need-not-le _ _ (length file) 65_536 l
+  long-file l = need-not-le _ _ (length file) mostBytes l
 
-  pub long-text : length file ≤ 65_536 → 65_536 < length text → refusedLine (refuse 13 0) ≡ said file text
+  pub long-text : length file ≤ mostBytes → mostBytes < length text → refusedLine (refuse 13 0) ≡ said file text
   unfolding said needAll
-  long-text f l = need-le _ _ _ (length file) 65_536 f (need-not-le _ _ (length text) 65_536 l)
+  long-text f l = need-le _ _ _ (length file) mostBytes f (need-not-le _ _ (length text) mostBytes l)
 
-  pub not-long : length file ≤ 65_536 → length text ≤ 65_536 → lineOf (checkedText file text) ≡ said file text
+  pub not-long : length file ≤ mostBytes → length text ≤ mostBytes → lineOf (checkedText file text) ≡ said file text
   unfolding said needAll
-  not-long f l = need-le _ _ _ (length file) 65_536 f (need-le _ _ _ (length text) 65_536 l refl)
+  not-long f l = need-le _ _ _ (length file) mostBytes f (need-le _ _ _ (length text) mostBytes l refl)

@@ -3,6 +3,7 @@ use Prim.Native.Nat.{ℕ}
 use mathlib.Core.List.{List, [], _∷_}
 use lib.ListN.{length}
 use lib.Dec.{leb, eqb}
+use Rattle.law.specs.Numbers.{mostBytes}
 use Rattle.law.specs.Words.{need, needAll}
 use Rattle.rules.specs.OnPaper.{OnPaper}
 use Rattle.rules.specs.Judge.{refuse}
@@ -31,4 +32,4 @@ lineOf p = lineBy (p .number) (p .values)
 
 -- 13, "program only: input over 65,536 bytes", comes before either is looked at
 unfoldable pub said : List ℕ → List ℕ → List ℕ
-said file text = needAll (refusedLine (refuse 13 0)) (leb (length file) 65_536 ∷ leb (length text) 65_536 ∷ []) (lineOf (checkedText file text))
+said file text = needAll (refusedLine (refuse 13 0)) (leb (length file) mostBytes ∷ leb (length text) mostBytes ∷ []) (lineOf (checkedText file text))

@@ -71,6 +71,10 @@ perGramOfWater = 100
 abbrev pub mostGrams : ℕ
 mostGrams = 600_000_000_000_000
 
+-- "input over 65,536 bytes": no program takes a longer file or text
+abbrev pub mostBytes : ℕ
+mostBytes = 65_536
+
 -- "gap of 24 or fewer"; "the last 720 valid hours"
 abbrev pub shortGap : ℕ
 shortGap = 24

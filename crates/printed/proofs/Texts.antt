@@ -5,7 +5,7 @@ use Prim.Native.Nat.{ℕ, _<_, _≤_}
 use native.Mathlib.Omega.{arith}
 use lib.ListN.{length}
 use borrow.Author.Tests.{le-leb}
-use Rattle.law.specs.Numbers.{mostHours, mostCells}
+use Rattle.law.specs.Numbers.{mostHours, mostCells, mostBytes}
 use Rattle.law.proofs.Tests.{need-le, need-not-le}
 use Rattle.rules.specs.declared.Answer.{Answer}
 use Rattle.rules.specs.Outfalls.{Line}
@@ -57,10 +57,10 @@ module _ (file rows conc flow : List ℕ) (a : Answer) (rows' conc' flow' : List
   text-stated totals old new r t e z l = text-of _ _ old new r (ap (statedLines rows' (a .rows)) e ∙ answer-stated z l) t
 
 -- ---- 13 comes first
-pub over-long : (input : List ℕ) → 65_536 < length input → refusedLine (refuse 13 0) ≡ printed input
+pub over-long : (input : List ℕ) → mostBytes < length input → refusedLine (refuse 13 0) ≡ printed input
 unfolding printed
-over-long input l = need-not-le (refusedLine (refuse 13 0)) (printedFrom (outcome input)) (length input) 65_536 l
+over-long input l = need-not-le (refusedLine (refuse 13 0)) (printedFrom (outcome input)) (length input) mostBytes l
 
-pub not-long : (input : List ℕ) → length input ≤ 65_536 → printedFrom (outcome input) ≡ printed input
+pub not-long : (input : List ℕ) → length input ≤ mostBytes → printedFrom (outcome input) ≡ printed input
 unfolding printed
-not-long input l = need-le (refusedLine (refuse 13 0)) (printedFrom (outcome input)) _ (length input) 65_536 l refl
+not-long input l = need-le (refusedLine (refuse 13 0)) (printedFrom (outcome input)) _ (length input) mostBytes l refl

@@ -3,6 +3,7 @@ use Prim.Native.Nat.{ℕ}
 use mathlib.Core.List.{List, [], _∷_, _++_}
 use lib.ListN.{length}
 use lib.Dec.{leb}
+use Rattle.law.specs.Numbers.{mostBytes}
 use Rattle.law.specs.Words.{need}
 use Rattle.rules.specs.Judge.{refuse}
 use Rattle.rules.specs.Outfalls.{Line}
@@ -27,4 +28,4 @@ printedFrom (Accepted lines) = rowLines lines ++ totalLine lines
 
 -- 13, "program only: input over 65,536 bytes" ("offset 0 for 13"), comes before the file is looked at
 unfoldable pub printed : List ℕ → List ℕ
-printed input = need (refusedLine (refuse 13 0)) (leb (length input) 65_536) (printedFrom (outcome input))
+printed input = need (refusedLine (refuse 13 0)) (leb (length input) mostBytes) (printedFrom (outcome input))
