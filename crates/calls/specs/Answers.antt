@@ -1,4 +1,4 @@
--- What the program writes for each of its four calls, by what the face promises.
+-- What the program writes for each of its six calls, by what the faces and `filed` promise.
 use Prim.Native.Nat.{ℕ, _+_, _*_, _%_, _^_, _≤_}
 use mathlib.Core.List.{List, [], _++_}
 use lib.ListN.{length, replicate}
@@ -11,7 +11,10 @@ use Rattle.rules.specs.Row.{concentrationCells, flowCells}
 use Rattle.rules.specs.Account.{answerOf, rowsAfter, workAfter}
 use Rattle.nearest.specs.Nearest.{ToNearest}
 use Rattle.import.specs.Import.{answerOf as importOf, bufferAfter}
-use Rattle.doarpezwim.specs.Faces.{answerCells, importCells, panelOf, faceStep}
+use Rattle.filed.specs.Filed.{checked}
+use Rattle.filed.specs.Said.{said}
+use Rattle.doarpezwim.specs.Faces.{answerCells, importCells, panelOf, faceStep, verdictCells}
+use Rattle.field.specs.Field.{u64}
 use Rattle.field.specs.Bytes.{u32Bytes, u64Bytes, cellsBytes}
 
 -- bytes written at the start of a buffer that holds them all
@@ -68,3 +71,15 @@ pub record ImportAnswered (text : List ℕ) (seed room : ℕ) (old new : List �
   pub near : ℕ → ℕ → ℕ
   pub nearest : ToNearest near
   pub answered : Answered (importBytes near text (lentBytes seed room)) old new end
+
+-- n cells that stand in bytes from a place on, each a u64
+unfoldable pub cellsAt : List ℕ → ℕ → ℕ → List ℕ
+cellsAt s from n = table (λ i. u64 s (from + 8 * i)) n
+
+-- 3 u64: 0, 0, 0; or 1, row and field; or 2, number and place
+unfoldable pub checkBytes : List ℕ → List ℕ → List ℕ → List ℕ
+checkBytes file rows totals = cellsBytes u64Bytes (verdictCells (checked file rows totals))
+
+-- u32 count, and that many bytes: the line that the program `checker` prints
+unfoldable pub filedBytes : List ℕ → List ℕ → List ℕ
+filedBytes file text = u32Bytes (length (said file text)) ++ said file text

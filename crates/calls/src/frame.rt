@@ -1,5 +1,7 @@
 // One frame: its header and its bytes read, its call made, its answer written.
 use crate::account_call;
+use crate::check_call;
+use crate::filed_call;
 use crate::import_call;
 use crate::panel_call;
 use crate::survey_call;
@@ -146,6 +148,54 @@ fn import_frame(h: Header, file: &mut [u8], out: &mut [u8]) -> usize
     import_of(h, &file[0..n], out)
 }
 
+// The check's answer to a file and the cells behind it; 0 where there are more row cells than room.
+fn check_of(h: Header, file: &[u8], cells: &[u8], out: &mut [u8]) -> usize
+    ensures { λ r. ⌜ r ≤ length (now (out .exit)) ⌝ }
+{
+    let mut rows = [0u64; 512];
+    let n = h.b as usize;
+    if n > 512 {
+        return 0;
+    }
+    if out.len() < 24 {
+        return 0;
+    }
+    check_call::answer(file, cells, &mut rows[0..n], out)
+}
+
+// The check's answer; 0 where the frame is larger than its room or cut short.
+fn check_frame(h: Header, file: &mut [u8], out: &mut [u8]) -> usize
+    ensures { λ r. ⌜ r ≤ length (now (out .exit)) ⌝ }
+{
+    let f = h.a as usize;
+    let n = f + 8 * h.b as usize + 40;
+    if file.len() < n {
+        return 0;
+    }
+    if !read_bytes(&mut file[0..n]) {
+        return 0;
+    }
+    check_of(h, &file[0..f], &file[f..n], out)
+}
+
+// The line that `checker` prints of a file and a text; 0 where the frame is larger than its room or cut short.
+fn filed_frame(h: Header, file: &mut [u8], out: &mut [u8]) -> usize
+    ensures { λ r. ⌜ r ≤ length (now (out .exit)) ⌝ }
+{
+    let f = h.a as usize;
+    let n = f + h.b as usize;
+    if file.len() < n {
+        return 0;
+    }
+    if out.len() < 8196 {
+        return 0;
+    }
+    if !read_bytes(&mut file[0..n]) {
+        return 0;
+    }
+    filed_call::answer(&file[0..f], &file[f..n], out)
+}
+
 // The answer by the call; 0 for an unknown one.
 fn answer_frame(h: Header, file: &mut [u8], out: &mut [u8]) -> usize
     ensures { λ r. ⌜ r ≤ length (now (out .exit)) ⌝ }
@@ -156,6 +206,8 @@ fn answer_frame(h: Header, file: &mut [u8], out: &mut [u8]) -> usize
         2 => panel_frame(h, file, out),
         3 => survey_frame(h, file, out),
         4 => import_frame(h, file, out),
+        5 => check_frame(h, file, out),
+        6 => filed_frame(h, file, out),
         _ => 0,
     }
 }

@@ -1,6 +1,8 @@
 // Makes the calls of the frames on standard input and writes their answers: the proved side of a comparison with the independent reference.
 mod account_call;
 mod bytes;
+mod check_call;
+mod filed_call;
 mod floats;
 mod frame;
 mod import_call;
