@@ -1,14 +1,16 @@
 #!/usr/bin/env python3
-"""The rules are run: the checker computes what the definitions say of record files and of texts of the historian, and compares with the stored answers.
+"""The rules are run: the checker computes what they say of record files, of texts of the historian and of filings, and compares with the stored answers.
 
 usage: tools/compute.py [--max BYTES] [--restated FILE].. FILE..      (NAME.rec or NAME.roomN.txt)
 
-Beside each NAME.rec stands a NAME.out with what `account` must print, or a restated.txt has what it prints after a later request. Beside each NAME.roomN.txt,
-a text with N bytes lent for its records, stands a NAME.roomN.out with number and line, and where that is `0 0` a NAME.roomN.days with the records written.
+Beside each NAME.rec stands a NAME.out with what `account` must print, or a restated.txt has what it prints after a later request. A NAME.rec that has a
+NAME.filed beside it is a filing, and its NAME.out has what `checker` must print. Beside each NAME.roomN.txt, a text with N bytes lent for its records, stands a
+NAME.roomN.out with number and line, and where that is `0 0` a NAME.roomN.days with the records written.
 
-No code of the account takes part. Each record file becomes one statement, `printed FILE ≡ ANSWER`. Each text becomes two, of what is answered and of the lent
-bytes afterwards: `answerOf N TEXT ≡ ANSWER` and `bufferAfter nearestBy TEXT LENT ≡ BYTES`. All are proved by refl in throwaway crates of a throwaway repository
-under target/compute/, which holds links to the rules and copies of the other definitions. Larger files than BYTES (3000) are passed over.
+No code of the account takes part. Each record file becomes one statement, `printed FILE ≡ ANSWER`, and each filing one, `said FILE TEXT ≡ ANSWER`. Each text
+becomes two, of what is answered and of the lent bytes afterwards: `answerOf N TEXT ≡ ANSWER` and `bufferAfter nearestBy TEXT LENT ≡ BYTES`. All are proved by
+refl in throwaway crates of a throwaway repository under target/compute/, which holds links to the rules and copies of the other definitions. Larger files than
+BYTES (3000) are passed over.
 A statement that is refused is named as `disagrees`, one that takes more steps than the checker allows as `no verdict`: a text costs the lines looked at times
 the bytes from there on, and 16,000 bytes that are accepted pass. The last line says whether all agree; the exit status is 0 only where they do.
 """
@@ -29,6 +31,8 @@ use Rattle.printed.specs.Opened.{prints}
 use Rattle.nearest.specs.Computed.{nearestBy}
 use Rattle.import.specs.Import.{answerOf, bufferAfter}
 use Rattle.import.specs.Opened.{texts}
+use Rattle.filed.specs.Said.{said}
+use Rattle.filed.specs.Opened.{checks}
 
 -- n bytes, the lowest first
 unfoldable spread : ℕ → ℕ → List ℕ
@@ -65,8 +69,9 @@ def write(crate, files):
 def definition(crate, parts, deps, lines):
     """Some files of a crate's definitions alone, with the types that it makes public and without the calls that write what is defined."""
     source = lambda path: open(os.path.join(ROOT, 'crates', crate, path), encoding='utf-8').read()
-    types = re.findall(r'^pub struct .*?^}\n', source('src/lib.rt'), re.M | re.S)
-    write(crate, {'src/lib.rt': '\n'.join(['// The definition alone.\n'] + types), 'specs/Lib.antt': ''.join('pub mod %s\n' % part for part in parts)})
+    types = re.findall(r'^pub (?:struct|enum) .*?^}\n', source('src/lib.rt'), re.M | re.S)
+    uses = [use for use, name in re.findall(r'^(use (?!crate)\w+::(\w+);\n)', source('src/lib.rt'), re.M) if re.search(r'\b%s\b' % name, ''.join(types))]
+    write(crate, {'src/lib.rt': '\n'.join(['// The definition alone.\n'] + uses + types), 'specs/Lib.antt': ''.join('pub mod %s\n' % part for part in parts)})
     write(crate, {'specs/%s.antt' % part: source('specs/%s.antt' % part) for part in parts})
     lines.append('%s: %s' % (crate, deps))
     return crate
@@ -83,6 +88,8 @@ def definitions(lines):
     base.append(definition('printed', ['Program', 'Opened'], 'law rules text', lines))
     base.append(definition('nearest', ['Nearest', 'Computed', 'Opened'], 'law reading', lines))
     base.append(definition('import', ['Line', 'Import', 'Opened'], 'law field reading nearest', lines))
+    base.append(definition('filing', ['Filing', 'Opened'], 'law', lines))
+    base.append(definition('filed', ['Filed', 'Said', 'Opened'], 'law rules text filing', lines))
     return base
 
 
@@ -93,6 +100,12 @@ def spread(b):
 def of_records(f, later):
     """What is printed for a record file."""
     return [('', 'printed (%s)' % spread(open(f, 'rb').read()), spread(restated.answer(f, later)[0]), 'prints')]
+
+
+def of_filing(f):
+    """What is said of a filing."""
+    file, text, answer = (spread(open(f[:-4] + end, 'rb').read()) for end in ('.rec', '.filed', '.out'))
+    return [('', 'said (%s) (%s)' % (file, text), answer, 'checks')]
 
 
 def of_text(f):
@@ -106,10 +119,17 @@ def of_text(f):
             (', the lent bytes', 'bufferAfter nearestBy (%s) (replicate %d %d)' % (text, lent, FILLER), spread(after), 'texts')]
 
 
+def statements(f, later):
+    """A part's name, both sides, and what is opened."""
+    if f.endswith('.txt'):
+        return of_text(f)
+    return of_filing(f) if os.path.exists(f[:-4] + '.filed') else of_records(f, later)
+
+
 def module(files, later):
     out = [HEAD]
     for i, f in enumerate(files):
-        for j, (part, left, right, opened) in enumerate(of_text(f) if f.endswith('.txt') else of_records(f, later)):
+        for j, (part, left, right, opened) in enumerate(statements(f, later)):
             name = 'f%d-%d' % (i, j)
             out += ['-- ' + os.path.basename(f) + part, '%s : %s ≡ %s' % (name, left, right), 'unfolding spread ' + opened, name + ' = refl', '']
     return '\n'.join(out)
