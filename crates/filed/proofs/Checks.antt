@@ -1,4 +1,4 @@
--- What is said of a filing, by what the walk answers of its file. Assumes nothing.
+-- What is said of a filing, by what the account answers of its file. Assumes nothing.
 use mathlib.Core.Path.{_≡_, refl, sym, ap, ap₂, _∙_}
 use mathlib.Core.Bool.{Bool, true, false}
 use mathlib.Core.List.{List, _∷_, [], _++_}
@@ -8,19 +8,18 @@ use lib.ListN.{length, take, drop, length-take}
 use lib.Seq.{take-at, take-all}
 use lib.Dec.{eqb}
 use borrow.Author.Tests.{le-leb, eq-eqb, ne-eqb}
-use Rattle.law.specs.Numbers.{mostHours, mostLines, mostCells, rowCells}
+use Rattle.law.specs.Numbers.{mostHours, mostCells, rowCells}
 use Rattle.law.specs.Words.{need}
 use Rattle.rules.specs.declared.Answer.{Answer}
 use Rattle.rules.specs.OnPaper.{OnPaper}
 use Rattle.rules.specs.Outfalls.{Line}
 use Rattle.rules.specs.Judge.{refuse}
-use Rattle.rules.specs.Row.{totalsOf}
+use Rattle.rules.specs.Row.{rowsOf, totalsOf}
 use Rattle.rules.specs.Walk.{Refused, Accepted, outcome}
 use Rattle.rules.specs.Account.{refusal, acceptance, workFits}
-use Rattle.answers.proofs.Answers.{denied}
-use Rattle.walk.specs.Books.{noRows}
-use Rattle.walk.proofs.Promises.{no-rows-long}
-use Rattle.walk.proofs.Told as told
+use Rattle.answers.specs.Answers.{Stated}
+use Rattle.answers.proofs.Answers.{stated, denied}
+use Rattle.answers.proofs.Rows.{rows-long}
 use Rattle.filing.specs.declared.Filing.{Filing}
 use Rattle.filing.specs.Filing.{readOf, Promise as Reads}
 use Rattle.filed.specs.Filed.{refusedWith, withTotals, compared, againstLines, against, checked}
@@ -40,12 +39,12 @@ pub front-long : (t : List ℕ) (n : ℕ) → n ≤ length t → length (take (n
 front-long t n l = omega (arith, length-take (n - 0) t)
 
 module _ (file : List ℕ) (a : Answer) (t : List ℕ) (w : Accounted file a t) where
-  -- a number that is not 0 is the file's own refusal: two tables of a quarter are enough, and rows of 48 lines
+  -- a number that is not 0 is the file's own refusal: two tables of a quarter are enough, and cells for the rows of 48 lines
   own : (a .number ≡ 0 → ⊥) → outcome file ≡ Refused (record { number = a .number; place = a .place })
   unfolding workFits refusal
   own n =
       let fits : workFits (length (w .conc)) (length (w .flow)) ≡ true = rw (le-leb mostHours (length (w .conc)) (w .concLong), le-leb mostHours (length (w .flow)) (w .flowLong)) in
-      let d = denied file noRows a t (w .conc) (w .flow) (w .conc') (w .flow') (w .promise) (omega (arith, no-rows-long)) fits n in
+      let d = denied file (w .rows) a t (w .conc) (w .flow) (w .conc') (w .flow') (w .promise) (omega (arith, w .rowsLong)) fits n in
       rw (d .answers, d .refused)
 
   pub checked-own : (rows totals : List ℕ) → (a .number ≡ 0 → ⊥) → refusedWith (record { number = a .number; place = a .place }) ≡ checked file rows totals
@@ -57,27 +56,28 @@ module _ (file : List ℕ) (a : Answer) (t : List ℕ) (w : Accounted file a t) 
   text-own text n = sym (ap (againstRead (readOf text)) (own n))
 
   module _ (z : a .number ≡ 0) where
+    abbrev told : Stated file (w .rows) a t
+    told = stated file (w .rows) a t (w .conc) (w .flow) (w .conc') (w .flow') (w .promise) z
+
     abbrev lines : List Line
-    lines = told.lines-of file (w .conc) (w .flow) a t (w .conc') (w .flow') (w .promise) z .lines
+    lines = told .lines
 
     rows-are : a .rows ≡ length lines
-    rows-are = told.rows-are file (w .conc) (w .flow) a t (w .conc') (w .flow') (w .promise) z
-
-    accepted : outcome file ≡ Accepted lines
-    accepted = told.lines-of file (w .conc) (w .flow) a t (w .conc') (w .flow') (w .promise) z .accepted
-
-    few : length lines ≤ mostLines
-    few = told.lines-of file (w .conc) (w .flow) a t (w .conc') (w .flow') (w .promise) z .most
+    unfolding acceptance
+    rows-are = ap (λ (b : Answer). b .rows) (told .answers)
 
     pub rows-most : rowCells * a .rows ≤ mostCells
-    rows-most = told.rows-most file (w .conc) (w .flow) a t (w .conc') (w .flow') (w .promise) z
+    rows-most = omega (arith, rows-are, told .most)
 
-    pub table-long : length t ≡ mostCells
-    table-long = told.table-long file (w .conc) (w .flow) a t (w .conc') (w .flow') (w .promise) z
+    -- the first cells of the table, seven for each line
+    table-front : (n : ℕ) → n ≡ rowCells * a .rows → take (n - 0) (drop 0 t) ≡ rowsOf lines
+    table-front n q =
+        let m : n - 0 ≡ rowCells * length lines = omega (arith, q, rows-are) in
+        ap₂ take m (told .leaves) ∙ take-at (rowsOf lines) (drop (rowCells * length lines) (w .rows)) (rowCells * length lines) (rows-long lines)
 
     checked-is : (rows totals : List ℕ) → checked file rows totals ≡ againstLines rows totals lines
     unfolding checked against
-    checked-is rows totals = rw accepted
+    checked-is rows totals = rw (told .accepted)
 
     -- 22: another number of cells than seven for each line
     count-wrong : (rows totals : List ℕ) → (length rows ≡ rowCells * length lines → ⊥) → refusedWith (refuse 22 0) ≡ againstLines rows totals lines
@@ -93,8 +93,8 @@ module _ (file : List ℕ) (a : Answer) (t : List ℕ) (w : Accounted file a t) 
     unfolding againstLines need acceptance
     checked-cells rows totals n e l r h =
         let m : eqb (length rows) (rowCells * length lines) ≡ true = eq-eqb (length rows) (rowCells * length lines) (omega (arith, rows-are)) in
-        let front = told.table-front file (w .conc) (w .flow) a t (w .conc') (w .flow') (w .promise) z n e in
-        let sums : a .totals ≡ totalsOf lines = ap (λ (b : Answer). b .totals) (told.lines-of file (w .conc) (w .flow) a t (w .conc') (w .flow') (w .promise) z .answers) in
+        let front = table-front n e in
+        let sums : a .totals ≡ totalsOf lines = ap (λ (b : Answer). b .totals) (told .answers) in
         h ∙ ap₂ (λ (x y : List ℕ). compared (withTotals rows totals) (withTotals x y)) front sums ∙ (rw m) ∙ sym (checked-is rows totals)
 
     -- a text as it was read
@@ -102,16 +102,16 @@ module _ (file : List ℕ) (a : Answer) (t : List ℕ) (w : Accounted file a t) 
       -- refused, with its own number and line
       pub text-refused : (f .number ≡ 0 → ⊥) → (r : OnPaper) → r ≡ refusedWith (record { number = f .number; place = f .line }) → r ≡ checkedText file text
       unfolding checkedText againstRead need refuse
-      text-refused n r h = h ∙ rw (p .numbers, p .lines, accepted, ne-eqb (readOf text .number) 0 (λ e. n (p .numbers ∙ e)))
+      text-refused n r h = h ∙ rw (p .numbers, p .lines, told .accepted, ne-eqb (readOf text .number) 0 (λ e. n (p .numbers ∙ e)))
 
       module _ (e : f .number ≡ 0) where
         text-is : checkedText file text ≡ againstLines (readOf text .cells) (readOf text .totals) lines
         unfolding checkedText againstRead need
-        text-is = rw (accepted, eq-eqb (readOf text .number) 0 (sym (p .numbers) ∙ e))
+        text-is = rw (told .accepted, eq-eqb (readOf text .number) 0 (sym (p .numbers) ∙ e))
 
         -- with more cells than any account has
         pub text-long : mostCells < f .count → (r : OnPaper) → r ≡ refusedWith (refuse 22 0) → r ≡ checkedText file text
-        text-long l r h = h ∙ count-wrong (readOf text .cells) (readOf text .totals) (λ q. omega (arith, few, p .counts)) ∙ sym text-is
+        text-long l r h = h ∙ count-wrong (readOf text .cells) (readOf text .totals) (λ q. omega (arith, told .most, p .counts)) ∙ sym text-is
 
         -- with no more: its cells are checked
         pub text-checked : f .count ≤ length rows → (r : OnPaper) → r ≡ checked file (take (f .count - 0) (drop 0 rows')) (f .totals) → r ≡ checkedText file text

@@ -3,10 +3,8 @@ use crate::Verdict;
 use crate::compare::verdict_of;
 use rules::Answer;
 use rules::Fault;
-use walk::Walked;
 ghost use mathlib.Core.Path.{_≡_};
 ghost use Prim.Native.Nat.{_*_, _≤_};
-ghost use lib.ListN.{length};
 ghost use Rattle.law.specs.Numbers.{rowCells, mostCells};
 ghost use Rattle.filed.specs.Filed.{verdictOnPaper, refusedWith};
 ghost use Rattle.filed.specs.Parts.{Accounted, CheckedBy};
@@ -17,13 +15,13 @@ pub const WRONG_COUNT: Fault = Fault {
     place: 0,
 };
 
-// "It needs no lent work slices."
-pub fn account_of(file: &[u8]) -> Walked
-    ensures { λ r. ⌜ Accounted (now (file .entry)) (r .answer) (r .rows) ⌝ }
+// "It needs no lent work slices." The rows of 48 lines fit the table, so that 8 is never answered.
+pub fn account_of(file: &[u8], table: &mut [u64; 336]) -> Answer
+    ensures { λ r. ⌜ Accounted (now (file .entry)) r (now (table .exit)) ⌝ }
 {
     let mut concentrations = [0u32; 2208];
     let mut flows = [0u32; 2208];
-    walk::walk_file(file, &mut concentrations, &mut flows)
+    quarter::account(file, table, &mut concentrations, &mut flows)
 }
 
 // "The file's own come first."
@@ -37,16 +35,15 @@ pub fn own_refusal(a: Answer) -> Verdict
 }
 
 // Of an accepted file: 22, or the cells compared.
-pub fn against_account(w: Walked, rows: &[u64], totals: &[u64; 5]) -> Verdict
-    requires { ⌜ (w .answer .number ≡ 0) × (rowCells * w .answer .rows ≤ mostCells) × (length (w .rows) ≡ mostCells) ⌝ }
-    ensures { λ r. ⌜ CheckedBy (w .answer) (w .rows) (now (rows .entry)) (now (totals .entry)) (verdictOnPaper r) ⌝ }
+pub fn against_account(a: Answer, table: &[u64; 336], rows: &[u64], totals: &[u64; 5]) -> Verdict
+    requires { ⌜ (a .number ≡ 0) × (rowCells * a .rows ≤ mostCells) ⌝ }
+    ensures { λ r. ⌜ CheckedBy a (now (table .entry)) (now (rows .entry)) (now (totals .entry)) (verdictOnPaper r) ⌝ }
 {
-    let a = w.answer;
     let n = 7 * a.rows;
     if rows.len() != n {
         return Verdict::Refused(WRONG_COUNT);
     }
-    let table = w.rows;
+    let cells = &table[..];
     let right = a.totals;
-    verdict_of(rows, &table[0..n], totals, &right)
+    verdict_of(rows, &cells[0..n], totals, &right)
 }

@@ -27,12 +27,12 @@ pub enum Verdict {
 pub fn check_filed(file: &[u8], rows: &[u64], totals: &[u64; 5]) -> Verdict
     ensures { λ r. ⌜ verdictOnPaper r ≡ checked (now (file .entry)) (now (rows .entry)) (now (totals .entry)) ⌝ }
 {
-    let w = account_of(file);
-    let a = w.answer;
+    let mut table = [0u64; 336];
+    let a = account_of(file, &mut table);
     if a.number != 0 {
         return own_refusal(a);
     }
-    against_account(w, rows, totals)
+    against_account(a, &table, rows, totals)
 }
 
 // What the program says of a record file and the text of a filing: 13 comes before either is looked at.

@@ -14,8 +14,8 @@ ghost use Rattle.text.specs.Text.{Text};
 pub fn check_text(file: &[u8], text: &[u8]) -> Verdict
     ensures { λ r. ⌜ verdictOnPaper r ≡ checkedText (now (file .entry)) (now (text .entry)) ⌝ }
 {
-    let w = account_of(file);
-    let a = w.answer;
+    let mut table = [0u64; 336];
+    let a = account_of(file, &mut table);
     if a.number != 0 {
         return own_refusal(a);
     }
@@ -32,7 +32,7 @@ pub fn check_text(file: &[u8], text: &[u8]) -> Verdict
         return Verdict::Refused(WRONG_COUNT);
     }
     let totals = t.totals;
-    against_account(w, &rows[0..n], &totals)
+    against_account(a, &table, &rows[0..n], &totals)
 }
 
 // "yes", "wrong ROW FIELD" or "refused N PLACE".

@@ -17,13 +17,12 @@ use Rattle.rules.specs.Judge.{refuse}
 use Rattle.rules.specs.Row.{rowsOf, cells, concentrationCells, flowCells}
 use Rattle.rules.specs.Account.{refusal, acceptance, rowsFit, workFits, answerFrom, answerOf, rowsFrom, rowsAfter, cellsFrom, workAfter, Promise}
 use Rattle.answers.specs.Answers.{Stated}
-use Rattle.answers.proofs.Answers.{denied}
+use Rattle.answers.proofs.Answers.{stated, denied}
 use Rattle.answers.proofs.Rows.{rows-long}
 use Rattle.cells.proofs.Parts.{first-all}
 use Rattle.walk.specs.Books.{noRows}
 use Rattle.walk.proofs.Going.{zeros}
 use Rattle.walk.proofs.Promises.{no-rows-long}
-use Rattle.walk.proofs.Told as told
 
 -- the first 2,208 cells cleared hold no line's hours
 pub cleared : (xs ys : List ℕ) → mostHours ≤ length xs → ys ≡ over (λ h. 0) (min mostHours (length xs)) xs → ys ≡ cells [] ++ drop mostHours xs
@@ -37,11 +36,13 @@ past-kept cs xs ys e l m =
     ap (drop mostHours) e ∙ drop-at cs (drop mostHours xs) mostHours n
 
 -- the rows that are copied are those of the lines
-copied : (lines : List Line) (front rows rows' : List ℕ) → front ≡ rowsOf lines → 7 * length lines ≤ length rows
-    → rows' ≡ over (λ k. getD front k 0) (min (length front) (length rows)) rows → rows' ≡ rowsOf lines ++ drop (7 * length lines) rows
-copied lines front rows rows' e l o =
-    let size : min (length (rowsOf lines)) (length rows) ≡ 7 * length lines = omega (arith, rows-long lines, l) in
-    o ∙ ap (λ (s : List ℕ). over (λ k. getD s k 0) (min (length s) (length rows)) rows) e
+copied : (lines : List Line) (t rows rows' : List ℕ) (n : ℕ) → n ≡ 7 * length lines → t ≡ rowsOf lines ++ drop (7 * length lines) noRows → n ≤ length rows
+    → rows' ≡ over (λ k. getD (take (n - 0) (drop 0 t)) k 0) (min (length (take (n - 0) (drop 0 t))) (length rows)) rows → rows' ≡ rowsOf lines ++ drop (7 * length lines) rows
+copied lines t rows rows' n q e l o =
+    let z : n - 0 ≡ 7 * length lines = omega (arith, q) in
+    let front : take (n - 0) (drop 0 t) ≡ rowsOf lines = ap₂ take z e ∙ take-at (rowsOf lines) (drop (7 * length lines) noRows) (7 * length lines) (rows-long lines) in
+    let size : min (length (rowsOf lines)) (length rows) ≡ 7 * length lines = omega (arith, rows-long lines, l, q) in
+    o ∙ ap (λ (s : List ℕ). over (λ k. getD s k 0) (min (length s) (length rows)) rows) front
     ∙ ap (λ (m : ℕ). over (λ k. getD (rowsOf lines) k 0) m rows) size
     ∙ ap (λ (s : List ℕ). s ++ drop (7 * length lines) rows) (sym (table-is (λ k. getD (rowsOf lines) k 0) (7 * length lines) 0 (rowsOf lines) (rows-long lines) (λ k m. refl)))
 
@@ -64,11 +65,21 @@ module _ (file conc flow : List ℕ) (a : Answer) (t conc' flow' : List ℕ) (p 
   pub lent : a .number ≡ 0 → (mostHours ≤ length conc) × (mostHours ≤ length flow)
   lent z = lengths-by (leb mostHours (length conc)) (leb mostHours (length flow)) refl refl (work-fits z)
 
-  abbrev lines-of : a .number ≡ 0 → Stated file noRows a t
-  lines-of z = told.lines-of file conc flow a t conc' flow' p z
+  lines-of : a .number ≡ 0 → Stated file noRows a t
+  lines-of z = stated file noRows a t conc flow conc' flow' p z
 
   rows-are : (z : a .number ≡ 0) → a .rows ≡ length (lines-of z .lines)
-  rows-are z = told.rows-are file conc flow a t conc' flow' p z
+  unfolding acceptance
+  rows-are z = ap (λ (b : Answer). b .rows) (lines-of z .answers)
+
+  pub rows-most : a .number ≡ 0 → 7 * a .rows ≤ mostCells
+  rows-most z = omega (arith, rows-are z, lines-of z .most)
+
+  pub table-long : a .number ≡ 0 → length t ≡ mostCells
+  table-long z =
+      let s = lines-of z in
+      ap length (s .leaves) ∙ length-append (rowsOf (s .lines)) (drop (7 * length (s .lines)) noRows)
+      ∙ omega (arith, rows-long (s .lines), length-drop (7 * length (s .lines)) noRows, no-rows-long, s .most)
 
   fits-table : (z : a .number ≡ 0) → leb (7 * length (lines-of z .lines)) (length noRows) ≡ true
   fits-table z = le-leb (7 * length (lines-of z .lines)) (length noRows) (omega (arith, lines-of z .most, no-rows-long))
@@ -124,7 +135,7 @@ module _ (file conc flow : List ℕ) (a : Answer) (t conc' flow' : List ℕ) (p 
         let k = work-fits z in
         record {
           answers = s .answers ∙ rw (k, s .accepted, n);
-          leaves = copied (s .lines) _ rows rows' (told.table-front file conc flow a t conc' flow' p z m e) (omega (arith, rows-are z, l, e)) o ∙ rw (k, s .accepted, n);
+          leaves = copied (s .lines) t rows rows' m (omega (arith, rows-are z, e)) (s .leaves) l o ∙ rw (k, s .accepted, n);
           concentrationsHold = conc-held z ∙ rw (k, s .accepted, n);
           flowsHold = flow-held z ∙ rw (k, s .accepted, n);
         }

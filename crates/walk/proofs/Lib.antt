@@ -15,5 +15,4 @@ pub mod Outfalls
 pub mod Takes
 pub mod Going
 pub mod Promises
-pub mod Told
 pub mod Only

@@ -2,8 +2,7 @@
 use borrow.Author.Needs.{needs}
 use mathlib.Core.Path.{refl}
 use native.Mathlib.Omega.{arith}
-use Rattle.walk.proofs.Told.{rows-most, table-long}
-use Rattle.quarter.proofs.Promises.{lent, promise-refused, promise-8, promise-0}
+use Rattle.quarter.proofs.Promises.{lent, rows-most, table-long, promise-refused, promise-8, promise-0}
 use Rattle.quarter.proofs.account.Statement.{statement}
 use Rattle.quarter.proofs.account.Tie as tie
 
