@@ -6,6 +6,7 @@ use Prim.Native.Nat.{ℕ, zero, suc, _+_, _-_, _*_, _/_, _%_, _<_, _≤_}
 use native.Mathlib.Omega.{arith}
 use lib.ListN.{length, getD, length-append, List·getD-append}
 use lib.Seq.{getD-append-add}
+use lib.Bits.{bitOr, bitXor, or-add-and, xor-add-and, and-le-l, and-le-r}
 use lib.Dec.{eqb, leb}
 use borrow.Author.Count.{below-more}
 use borrow.Author.Tests.{eq-eqb, ne-eqb, eqb-true, eqb-false, leb-true, leb-false}
@@ -15,6 +16,13 @@ use Rattle.law.proofs.Seek.{seek-first, seek-none}
 use Rattle.rules.specs.OnPaper.{OnPaper, says}
 use Rattle.filed.specs.Filed.{isWrong, compared}
 use Rattle.filed.specs.Parts.{FirstWrong}
+
+-- no bit differs, so far and in two cells
+pub no-bit : (d a b : ℕ) → bitOr d (bitXor a b) ≡ 0 → (d ≡ 0) × (a ≡ b)
+no-bit d a b z =
+    let x = bitXor a b in
+    let none : (d ≡ 0) × (x ≡ 0) = (omega (arith, or-add-and d x, and-le-l d x, and-le-r d x), omega (arith, or-add-and d x, and-le-l d x, and-le-r d x)) in
+    (none .0, omega (arith, xor-add-and a b, and-le-l a b, and-le-r a b, none .1))
 
 -- cells that are alike, or not
 alike : (filed right : List ℕ) (j : ℕ) → getD filed j 0 ≡ getD right j 0 → isWrong filed right j ≡ false

@@ -8,18 +8,18 @@ ghost use Rattle.law.specs.Numbers.{rowCells};
 ghost use Rattle.filed.specs.Filed.{verdictOnPaper, withTotals, compared};
 ghost use Rattle.filed.specs.Parts.{FirstWrong};
 
-// Whether all cells are alike. Each is looked at, whatever the others are, so that the compiler takes several at a time.
+// Whether all cells are alike: no bit of any differs. Each is looked at, whatever the others are, so that the compiler takes several at a time.
 fn all_alike(filed: &[u64], right: &[u64]) -> bool
     requires { ⌜ length (now filed) ≡ length (now right) ⌝ }
     ensures { λ r. ⌜ (r ≡ true → FirstWrong (now (filed .entry)) (now (right .entry)) (length (now (right .entry)))) ⌝ }
 {
-    let mut same = true;
+    let mut differ: u64 = 0;
     let mut k: usize = 0;
     while k < right.len() {
-        same = same & (filed[k] == right[k]);
+        differ = differ | (filed[k] ^ right[k]);
         k += 1;
     }
-    same
+    differ == 0
 }
 
 // The first place at which two lists of cells differ, or their length. A filing mostly agrees, which is asked first.
