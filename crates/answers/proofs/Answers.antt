@@ -27,7 +27,8 @@ module _ (file rows : List ℕ) (a : Answer) (rows' : List ℕ) where
   by-rows lines true o e r z = record { lines = lines; accepted = o; most = accepted-48 file lines o; answers = e; leaves = r }
   by-rows lines false o e r z = absurd (omega (arith, ap (λ (b : Answer). b .number) e, z))
 
-  by-outcome : (o : Outcome) → outcome file ≡ o → a ≡ answerFrom (length rows) o → rows' ≡ rowsFrom rows o → a .number ≡ 0 → Stated file rows a rows'
+  -- what a walk answers, work tables apart
+  pub by-outcome : (o : Outcome) → outcome file ≡ o → a ≡ answerFrom (length rows) o → rows' ≡ rowsFrom rows o → a .number ≡ 0 → Stated file rows a rows'
   unfolding answerFrom rowsFrom refusal
   by-outcome (Refused f) o e r z = absurd (refused-some file f o (sym (ap (λ (b : Answer). b .number) e) ∙ z))
   by-outcome (Accepted lines) o e r z = by-rows lines (rowsFit (length rows) lines) o e r z
@@ -49,7 +50,7 @@ module _ (file rows : List ℕ) (a : Answer) (rows' : List ℕ) where
   denied-rows lines true f o l e n = absurd (n (ap (λ (b : Answer). b .number) e))
   denied-rows lines false f o l e n = absurd (omega (arith, leb-false (rowCells * length lines) (length rows) f, accepted-48 file lines o, l))
 
-  denied-by : (o : Outcome) → outcome file ≡ o → mostCells ≤ length rows → a ≡ answerFrom (length rows) o → (a .number ≡ 0 → ⊥) → Denied file a
+  pub denied-by : (o : Outcome) → outcome file ≡ o → mostCells ≤ length rows → a ≡ answerFrom (length rows) o → (a .number ≡ 0 → ⊥) → Denied file a
   unfolding answerFrom rowsFit
   denied-by (Refused f) o l e n = record { fault = f; refused = o; answers = e }
   denied-by (Accepted lines) o l e n = denied-rows lines (leb (rowCells * length lines) (length rows)) refl o l e n

@@ -1,4 +1,4 @@
--- What is said of a filing, by what the account answers of its file. Assumes nothing.
+-- What is said of a filing, by what the walk answers of its file. Assumes nothing.
 use mathlib.Core.Path.{_≡_, refl, sym, ap, ap₂, _∙_}
 use mathlib.Core.Bool.{Bool, true, false}
 use mathlib.Core.List.{List, _∷_, [], _++_}
@@ -7,8 +7,8 @@ use native.Mathlib.Omega.{arith}
 use lib.ListN.{length, take, drop, length-take}
 use lib.Seq.{take-at, take-all}
 use lib.Dec.{eqb}
-use borrow.Author.Tests.{le-leb, eq-eqb, ne-eqb}
-use Rattle.law.specs.Numbers.{mostHours, mostCells, rowCells}
+use borrow.Author.Tests.{eq-eqb, ne-eqb}
+use Rattle.law.specs.Numbers.{mostCells, rowCells}
 use Rattle.law.specs.Words.{need}
 use Rattle.rules.specs.declared.Answer.{Answer}
 use Rattle.rules.specs.OnPaper.{OnPaper}
@@ -16,15 +16,17 @@ use Rattle.rules.specs.Outfalls.{Line}
 use Rattle.rules.specs.Judge.{refuse}
 use Rattle.rules.specs.Row.{rowsOf, totalsOf}
 use Rattle.rules.specs.Walk.{Refused, Accepted, outcome}
-use Rattle.rules.specs.Account.{refusal, acceptance, workFits}
-use Rattle.answers.specs.Answers.{Stated}
-use Rattle.answers.proofs.Answers.{stated, denied}
+use Rattle.rules.specs.Account.{refusal, acceptance}
+use Rattle.answers.specs.Answers.{Stated, Denied}
+use Rattle.answers.proofs.Answers.{by-outcome, denied-by}
 use Rattle.answers.proofs.Rows.{rows-long}
+use Rattle.walk.specs.Books.{noRows}
+use Rattle.walk.specs.Walking.{Alone}
+use Rattle.walk.proofs.Promises.{no-rows-long}
 use Rattle.filing.specs.declared.Filing.{Filing}
 use Rattle.filing.specs.Filing.{readOf, Promise as Reads}
 use Rattle.filed.specs.Filed.{refusedWith, withTotals, compared, againstLines, against, checked}
 use Rattle.filed.specs.Said.{againstRead, checkedText}
-use Rattle.filed.specs.Parts.{Accounted}
 
 -- the lent cells hold all cells of a text that has no more
 pub cells-kept : (cells rows rows' : List ℕ) (n : ℕ) → n ≡ length cells → n ≤ length rows → rows' ≡ take (length rows) cells ++ drop (length cells) rows → take (n - 0) (drop 0 rows') ≡ cells
@@ -38,14 +40,14 @@ cells-kept cells rows rows' n e l h =
 pub front-long : (t : List ℕ) (n : ℕ) → n ≤ length t → length (take (n - 0) (drop 0 t)) ≡ n
 front-long t n l = omega (arith, length-take (n - 0) t)
 
-module _ (file : List ℕ) (a : Answer) (t : List ℕ) (w : Accounted file a t) where
-  -- a number that is not 0 is the file's own refusal: two tables of a quarter are enough, and cells for the rows of 48 lines
+module _ (file : List ℕ) (a : Answer) (t : List ℕ) (w : Alone file a t) where
+  -- a number that is not 0 is the file's own refusal: cells for the rows of 48 lines are enough
+  own-by : Denied file a → outcome file ≡ Refused (record { number = a .number; place = a .place })
+  unfolding refusal
+  own-by d = rw (d .answers, d .refused)
+
   own : (a .number ≡ 0 → ⊥) → outcome file ≡ Refused (record { number = a .number; place = a .place })
-  unfolding workFits refusal
-  own n =
-      let fits : workFits (length (w .conc)) (length (w .flow)) ≡ true = rw (le-leb mostHours (length (w .conc)) (w .concLong), le-leb mostHours (length (w .flow)) (w .flowLong)) in
-      let d = denied file (w .rows) a t (w .conc) (w .flow) (w .conc') (w .flow') (w .promise) (omega (arith, w .rowsLong)) fits n in
-      rw (d .answers, d .refused)
+  own n = own-by (denied-by file noRows a t (outcome file) refl (omega (arith, no-rows-long)) (w .answers) n)
 
   pub checked-own : (rows totals : List ℕ) → (a .number ≡ 0 → ⊥) → refusedWith (record { number = a .number; place = a .place }) ≡ checked file rows totals
   unfolding checked against
@@ -56,8 +58,8 @@ module _ (file : List ℕ) (a : Answer) (t : List ℕ) (w : Accounted file a t) 
   text-own text n = sym (ap (againstRead (readOf text)) (own n))
 
   module _ (z : a .number ≡ 0) where
-    abbrev told : Stated file (w .rows) a t
-    told = stated file (w .rows) a t (w .conc) (w .flow) (w .conc') (w .flow') (w .promise) z
+    abbrev told : Stated file noRows a t
+    told = by-outcome file noRows a t (outcome file) refl (w .answers) (w .leaves) z
 
     abbrev lines : List Line
     lines = told .lines
@@ -73,7 +75,7 @@ module _ (file : List ℕ) (a : Answer) (t : List ℕ) (w : Accounted file a t) 
     table-front : (n : ℕ) → n ≡ rowCells * a .rows → take (n - 0) (drop 0 t) ≡ rowsOf lines
     table-front n q =
         let m : n - 0 ≡ rowCells * length lines = omega (arith, q, rows-are) in
-        ap₂ take m (told .leaves) ∙ take-at (rowsOf lines) (drop (rowCells * length lines) (w .rows)) (rowCells * length lines) (rows-long lines)
+        ap₂ take m (told .leaves) ∙ take-at (rowsOf lines) (drop (rowCells * length lines) noRows) (rowCells * length lines) (rows-long lines)
 
     checked-is : (rows totals : List ℕ) → checked file rows totals ≡ againstLines rows totals lines
     unfolding checked against

@@ -3,10 +3,9 @@ use Prim.Native.Nat.{ℕ, _<_, _≤_}
 use mathlib.Core.List.{List}
 use mathlib.Core.Path.{_≡_}
 use lib.ListN.{length, getD}
-use Rattle.law.specs.Numbers.{mostHours, mostCells}
 use Rattle.rules.specs.declared.Answer.{Answer}
 use Rattle.rules.specs.OnPaper.{OnPaper}
-use Rattle.rules.specs.Account.{Promise}
+use Rattle.walk.specs.Walking.{Alone}
 use Rattle.filed.specs.Filed.{checked}
 
 -- the first place at which filed cells are not the right ones, or how many of these there are
@@ -15,18 +14,6 @@ pub record FirstWrong (filed right : List ℕ) (k : ℕ) : Type 0 where
   pub before : (j : ℕ) → j < k → getD filed j 0 ≡ getD right j 0
   pub there : k < length right → getD filed k 0 ≡ getD right k 0 → ⊥
 
--- what the account answers of a file, with work tables and cells for rows that are long enough, and the table of its rows
-pub record Accounted (file : List ℕ) (answer : Answer) (table : List ℕ) : Type 0 where
-  pub rows : List ℕ
-  pub conc : List ℕ
-  pub flow : List ℕ
-  pub conc' : List ℕ
-  pub flow' : List ℕ
-  pub promise : Promise file rows conc flow answer table conc' flow'
-  pub rowsLong : length rows ≡ mostCells
-  pub concLong : mostHours ≤ length conc
-  pub flowLong : mostHours ≤ length flow
-
 -- what is said of a filing, of any file that was answered so
 abbrev pub CheckedBy : Answer → List ℕ → List ℕ → List ℕ → OnPaper → Type 0
-CheckedBy answer table rows totals said = (file : List ℕ) → Accounted file answer table → said ≡ checked file rows totals
+CheckedBy answer table rows totals said = (file : List ℕ) → Alone file answer table → said ≡ checked file rows totals

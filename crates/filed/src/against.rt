@@ -1,4 +1,4 @@
-// The account of the file, with tables of its own, and the filed cells beside it.
+// The filed cells beside the account of the file.
 use crate::Verdict;
 use crate::compare::verdict_of;
 use rules::Answer;
@@ -7,22 +7,13 @@ ghost use mathlib.Core.Path.{_≡_};
 ghost use Prim.Native.Nat.{_*_, _≤_};
 ghost use Rattle.law.specs.Numbers.{rowCells, mostCells};
 ghost use Rattle.filed.specs.Filed.{verdictOnPaper, refusedWith};
-ghost use Rattle.filed.specs.Parts.{Accounted, CheckedBy};
+ghost use Rattle.filed.specs.Parts.{CheckedBy};
 
 // "Wrong row count", with place 0.
 pub const WRONG_COUNT: Fault = Fault {
     number: 22,
     place: 0,
 };
-
-// "It needs no lent work slices." The rows of 48 lines fit the table, so that 8 is never answered.
-pub fn account_of(file: &[u8], table: &mut [u64; 336]) -> Answer
-    ensures { λ r. ⌜ Accounted (now (file .entry)) r (now (table .exit)) ⌝ }
-{
-    let mut concentrations = [0u32; 2208];
-    let mut flows = [0u32; 2208];
-    quarter::account(file, table, &mut concentrations, &mut flows)
-}
 
 // "The file's own come first."
 pub fn own_refusal(a: Answer) -> Verdict

@@ -3,7 +3,6 @@ mod against;
 mod compare;
 mod texts;
 
-use crate::against::account_of;
 use crate::against::against_account;
 use crate::against::own_refusal;
 use crate::texts::check_text;
@@ -27,11 +26,12 @@ pub enum Verdict {
 pub fn check_filed(file: &[u8], rows: &[u64], totals: &[u64; 5]) -> Verdict
     ensures { λ r. ⌜ verdictOnPaper r ≡ checked (now (file .entry)) (now (rows .entry)) (now (totals .entry)) ⌝ }
 {
-    let mut table = [0u64; 336];
-    let a = account_of(file, &mut table);
+    let w = walk::walk_alone(file);
+    let a = w.answer;
     if a.number != 0 {
         return own_refusal(a);
     }
+    let table = w.rows;
     against_account(a, &table, rows, totals)
 }
 

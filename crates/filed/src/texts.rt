@@ -1,7 +1,6 @@
 // The text of a filing, read and checked, and what is said of it.
 use crate::Verdict;
 use crate::against::WRONG_COUNT;
-use crate::against::account_of;
 use crate::against::against_account;
 use crate::against::own_refusal;
 use rules::Fault;
@@ -14,11 +13,12 @@ ghost use Rattle.text.specs.Text.{Text};
 pub fn check_text(file: &[u8], text: &[u8]) -> Verdict
     ensures { λ r. ⌜ verdictOnPaper r ≡ checkedText (now (file .entry)) (now (text .entry)) ⌝ }
 {
-    let mut table = [0u64; 336];
-    let a = account_of(file, &mut table);
+    let w = walk::walk_alone(file);
+    let a = w.answer;
     if a.number != 0 {
         return own_refusal(a);
     }
+    let table = w.rows;
     let mut rows = [0u64; 336];
     let t = filing::read_filing(text, &mut rows);
     if t.number != 0 {

@@ -1,7 +1,7 @@
 -- Cells past those that were used are 0, so that clearing these clears all. Assumes nothing.
 use mathlib.Core.Path.{_≡_, refl, sym, ap, _∙_}
 use mathlib.Core.Bool.{Bool, true, false}
-use mathlib.Core.List.{List, _++_}
+use mathlib.Core.List.{List, [], _++_}
 use Prim.Native.Nat.{ℕ, _+_, _-_, _≤_, min}
 use native.Mathlib.Omega.{arith}
 use lib.ListN.{length, drop, getD, replicate, length-append, length-drop, length-replicate, getD-replicate, List·getD-append, List·getD-eq-default}
@@ -47,6 +47,11 @@ module _ (xs : List ℕ) (n : ℕ) (past : (h : ℕ) → n ≤ h → getD xs h 0
   cleared-all e l =
       table-is (λ i. 0) mostHours 0 (over (λ i. 0) n xs) (length-append (table (λ i. 0) n) (drop n xs) ∙ omega (arith, table-length {A = ℕ} (λ i. 0) n, length-drop n xs, e, l))
       (λ k m. over-zero k (ltb k n) refl)
+
+-- a cleared work slice has 2,208 cells
+pub clear-long : (xs : List ℕ) → xs ≡ cells [] → length xs ≡ mostHours
+unfolding cells
+clear-long xs e = ap length e ∙ length-replicate {A = ℕ} mostHours 0
 
 -- a work slice of 2,208 cells that is cleared
 pub zeroed : (xs zs : List ℕ) → length xs ≡ mostHours → zs ≡ over (λ h. 0) (min mostHours (length xs)) xs → zs ≡ table (λ h. 0) mostHours

@@ -10,7 +10,7 @@ use borrow.Author.Tests.{lt-ltb, le-ltb, eq-eqb, ne-eqb, eqb-true, eqb-false}
 use Rattle.law.specs.Numbers.{mostDays, mostHours, mostCells, totalCells}
 use Rattle.law.specs.Words.{need, pick, sumOf, table}
 use Rattle.law.proofs.Over.{part-whole}
-use Rattle.law.proofs.Tabled.{table-is, table-length}
+use Rattle.law.proofs.Tabled.{table-is}
 use Rattle.rules.specs.declared.Fault.{Fault}
 use Rattle.rules.specs.declared.Record.{Record}
 use Rattle.rules.specs.declared.Record.the-variants.{Bad}
@@ -65,7 +65,7 @@ zeros n = sym (table-is (λ h. 0) n 0 (replicate n 0) (length-replicate n 0) (λ
 
 pub reached-start : (file runs measured states flags conc flow rows totals : List ℕ) (p : Progress) → length runs ≡ mostDays → length measured ≡ mostDays → length states ≡ mostHours → flags ≡ replicate mostHours 0
     → rows ≡ noRows → totals ≡ replicate totalCells 0
-    → conc ≡ table (λ h. 0) mostHours → flow ≡ table (λ h. 0) mostHours → p ≡ atStart → Reached file p (inOpen runs measured states flags conc flow) (inDone rows totals)
+    → conc ≡ cells [] → flow ≡ cells [] → p ≡ atStart → Reached file p (inOpen runs measured states flags conc flow) (inDone rows totals)
 unfolding fine outcome recordsOf rowsOf totalsOf totalOf sumOf concentrationCells flowCells cells noRows
 reached-start file runs measured states flags conc flow rows totals p rl ml sl g ol tl c f q =
     let kept : Kept (Between []) (atStart .view) (atStart .sums) (inOpen runs measured states flags conc flow) (inDone rows totals) =
@@ -85,17 +85,17 @@ reached-start file runs measured states flags conc flow rows totals p rl ml sl g
             measured = ml;
             states = sl;
             flags = ap length g ∙ length-replicate {A = ℕ} mostHours 0;
-            concentrations = ap length c ∙ table-length (λ h. 0) mostHours;
-            flows = ap length f ∙ table-length (λ h. 0) mostHours;
+            concentrations = ap length c ∙ length-replicate {A = ℕ} mostHours 0;
+            flows = ap length f ∙ length-replicate {A = ℕ} mostHours 0;
           };
       books =
           record {
-            concHeld = c ∙ zeros mostHours;
-            flowHeld = f ∙ zeros mostHours;
+            concHeld = c;
+            flowHeld = f;
             usedMost = omega arith;
             flagsPast = λ h l. ap (λ (t : List ℕ). getD t h 0) g ∙ replicate-zero mostHours h;
-            concPast = λ h l. ap (λ (t : List ℕ). getD t h 0) (c ∙ zeros mostHours) ∙ cells-past [] 0 h (omega arith) l;
-            flowPast = λ h l. ap (λ (t : List ℕ). getD t h 0) (f ∙ zeros mostHours) ∙ cells-past [] 0 h (omega arith) l;
+            concPast = λ h l. ap (λ (t : List ℕ). getD t h 0) c ∙ cells-past [] 0 h (omega arith) l;
+            flowPast = λ h l. ap (λ (t : List ℕ). getD t h 0) f ∙ cells-past [] 0 h (omega arith) l;
           };
     } in
     rw q (record {

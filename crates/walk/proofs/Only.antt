@@ -1,5 +1,5 @@
--- No second answer, rows or cells meet the promise of `walk_file`. Assumes nothing.
-use mathlib.Core.Path.{_≡_, ap₂}
+-- No second answer, rows or cells meet the promise of `walk_file`, nor of `walk_alone`. Assumes nothing.
+use mathlib.Core.Path.{_≡_, sym, ap₂, _∙_}
 use mathlib.Core.List.{List}
 use Prim.Native.Nat.{ℕ}
 use Rattle.rules.specs.declared.Answer.{Answer}
@@ -7,10 +7,17 @@ use Rattle.rules.specs.Account.{Promise}
 use Rattle.answers.proofs.Only.{promise-only}
 use Rattle.walk.specs.declared.Walked.{Walked}
 use Rattle.walk.specs.Books.{noRows}
+use Rattle.walk.specs.Walking.{Alone}
+
+same : (a b : Walked) → a .answer ≡ b .answer → a .rows ≡ b .rows → a ≡ b
+same a b e f = ap₂ (λ (x : Answer) (y : List ℕ). record { answer = x; rows = y }) e f
 
 pub walk-file : (file conc flow : List ℕ) (a b : Walked) (conc₁ conc₂ flow₁ flow₂ : List ℕ)
     → Promise file noRows conc flow (a .answer) (a .rows) conc₁ flow₁ → Promise file noRows conc flow (b .answer) (b .rows) conc₂ flow₂
     → (a ≡ b) × (conc₁ ≡ conc₂) × (flow₁ ≡ flow₂)
 walk-file file conc flow a b conc₁ conc₂ flow₁ flow₂ p q =
     let e = promise-only file noRows conc flow (a .answer) (b .answer) (a .rows) (b .rows) conc₁ conc₂ flow₁ flow₂ p q in
-    (ap₂ (λ (x : Answer) (y : List ℕ). record { answer = x; rows = y }) (e .0) (e .1), e .2, e .3)
+    (same a b (e .0) (e .1), e .2, e .3)
+
+pub walk-alone : (file : List ℕ) (a b : Walked) → Alone file (a .answer) (a .rows) → Alone file (b .answer) (b .rows) → a ≡ b
+walk-alone file a b p q = same a b (p .answers ∙ sym (q .answers)) (p .leaves ∙ sym (q .leaves))

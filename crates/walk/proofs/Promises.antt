@@ -16,7 +16,7 @@ use Rattle.rules.specs.Account.{acceptance, rowsFit, workFits, answerFrom, answ
 use Rattle.walk.specs.declared.turns.Tally.{Tally}
 use Rattle.walk.specs.declared.Walked.{Walked}
 use Rattle.walk.specs.Books.{noRows, Done}
-use Rattle.walk.specs.Walking.{stopped, WalkPromise, Settled}
+use Rattle.walk.specs.Walking.{stopped, answered, WalkPromise, Settled, Alone}
 use Rattle.walk.proofs.Cleared.{zeroed}
 use Rattle.walk.proofs.Going.{zeros}
 
@@ -75,14 +75,18 @@ module _ (file : List ℕ) (d : Done) (conc flow : List ℕ) (w : Tally) (p : Wa
   settled-stopped n r conc' flow' e c l = let o = p .refuses n in rw (e, c, l) (record { answers = rw o; leaves = rw o; concentrationsHold = rw o; flowsHold = rw o })
 
   -- a file that is accepted has cells enough for its rows
-  pub settled-0 : w .fault .number ≡ 0 → Settled file noRows (record { number = 0; place = 0; rows = w .lines; totals = d .totals }) (d .rows) conc flow
+  pub settled-0 : w .fault .number ≡ 0 → (r : Walked) → r ≡ answered (w .lines) (d .totals) (d .rows) → Settled file noRows (r .answer) (r .rows) conc flow
   unfolding answerFrom rowsFrom cellsFrom rowsFit acceptance need
-  settled-0 z =
+  settled-0 z r q =
       let e = p .ends z in
       let n : leb (rowCells * length (e .lines)) (length noRows) ≡ true = le-leb (rowCells * length (e .lines)) (length noRows) (omega (arith, e .most, no-rows-long)) in
-      record {
+      rw q (record {
         answers = rw (e .count, e .totals, e .accepted, n);
         leaves = e .rows ∙ rw (e .accepted, n);
         concentrationsHold = e .concHeld ∙ rw (e .accepted, n);
         flowsHold = e .flowHeld ∙ rw (e .accepted, n);
-      }
+      })
+
+-- what a walk with work tables of its own promises is half of it
+pub alone : (file : List ℕ) (r : Answer) (rows conc flow : List ℕ) → Settled file noRows r rows conc flow → Alone file r rows
+alone file r rows conc flow s = record { answers = s .answers; leaves = s .leaves }

@@ -76,9 +76,18 @@ pub record WalkPromise (file : List ℕ) (d : Done) (conc flow : List ℕ) (w : 
 abbrev pub stopped : Fault → Walked
 stopped f = record { answer = refusal f; rows = noRows }
 
+-- an accepted file, with the rows of its lines
+abbrev pub answered : ℕ → List ℕ → List ℕ → Walked
+answered lines totals rows = record { answer = record { number = 0; place = 0; rows = lines; totals = totals }; rows = rows }
+
 -- a file that is walked, and its work slices of 2,208 cells: what the promise of `account` asks where both are lent
 pub record Settled (file rows : List ℕ) (r : Answer) (rows' conc flow : List ℕ) : Type 0 where
   pub answers : r ≡ answerFrom (length rows) (outcome file)
   pub leaves : rows' ≡ rowsFrom rows (outcome file)
   pub concentrationsHold : conc ≡ cellsFrom concentrationCells (length rows) (outcome file)
   pub flowsHold : flow ≡ cellsFrom flowCells (length rows) (outcome file)
+
+-- the promise of `walk_alone`: answer and rows, as if 336 cleared cells were lent for these
+pub record Alone (file : List ℕ) (r : Answer) (rows : List ℕ) : Type 0 where
+  pub answers : r ≡ answerFrom (length noRows) (outcome file)
+  pub leaves : rows ≡ rowsFrom noRows (outcome file)

@@ -16,7 +16,7 @@ ghost use Rattle.law.specs.Numbers.{mostHours};
 ghost use Rattle.rules.specs.Row.{cells};
 ghost use Rattle.rules.specs.Account.{Promise};
 ghost use Rattle.walk.specs.Books.{noRows};
-ghost use Rattle.walk.specs.Walking.{stopped, Settled};
+ghost use Rattle.walk.specs.Walking.{stopped, answered, Settled, Alone};
 
 // The answer to a file, with cells for the rows of 48 lines.
 pub struct Walked {
@@ -45,6 +45,21 @@ fn refused(f: Fault) -> Walked
     }
 }
 
+// "Number and place (both 0 on acceptance), row count and" totals.
+fn accepted(lines: u32, totals: [u64; 5], rows: [u64; 336]) -> Walked
+    ensures { λ r. ⌜ r ≡ answered lines totals rows ⌝ }
+{
+    Walked {
+        answer: Answer {
+            number: 0,
+            place: 0,
+            rows: lines as usize,
+            totals,
+        },
+        rows,
+    }
+}
+
 // Both work tables cleared, and the refusal answered.
 fn stop(f: Fault, conc: &mut [u32], flow: &mut [u32]) -> Walked
     requires { ⌜ (length (now conc) ≡ mostHours) × (length (now flow) ≡ mostHours) ⌝ }
@@ -60,6 +75,8 @@ fn settle(file: &[u8], conc: &mut [u32], flow: &mut [u32]) -> Walked
     requires { ⌜ (length (now conc) ≡ mostHours) × (length (now flow) ≡ mostHours) ⌝ }
     ensures { λ r. ⌜ Settled (now (file .entry)) noRows (r .answer) (r .rows) (now (conc .exit)) (now (flow .exit)) ⌝ }
 {
+    cells::clear_quarter(conc);
+    cells::clear_quarter(flow);
     let mut rows = [0u64; 336];
     let mut totals = [0u64; 5];
     let w = walk_records(file, &mut rows, &mut totals, conc, flow);
@@ -67,15 +84,7 @@ fn settle(file: &[u8], conc: &mut [u32], flow: &mut [u32]) -> Walked
     if f.number != 0 {
         return stop(f, conc, flow);
     }
-    Walked {
-        answer: Answer {
-            number: 0,
-            place: 0,
-            rows: w.lines as usize,
-            totals,
-        },
-        rows,
-    }
+    accepted(w.lines, totals, rows)
 }
 
 // The account of a file, as if 336 cleared cells were lent for its rows. No work cell past 2,208 is lent on.
@@ -89,4 +98,20 @@ pub fn walk_file(file: &[u8], concentrations: &mut [u32], flows: &mut [u32]) -> 
         return refused(TOO_SHORT);
     }
     settle(file, &mut concentrations[0..2208], &mut flows[0..2208])
+}
+
+// The same with work tables of its own, which are clear as they are made.
+pub fn walk_alone(file: &[u8]) -> Walked
+    ensures { λ r. ⌜ Alone (now (file .entry)) (r .answer) (r .rows) ⌝ }
+{
+    let mut conc = [0u32; 2208];
+    let mut flow = [0u32; 2208];
+    let mut rows = [0u64; 336];
+    let mut totals = [0u64; 5];
+    let w = walk_records(file, &mut rows, &mut totals, &mut conc, &mut flow);
+    let f = w.fault;
+    if f.number != 0 {
+        return refused(f);
+    }
+    accepted(w.lines, totals, rows)
 }

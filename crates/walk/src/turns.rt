@@ -9,10 +9,12 @@ use rules::Fault;
 use rules::Record;
 use rules::View;
 ghost use mathlib.Core.Path.{_≡_};
+ghost use mathlib.Core.List.{[]};
 ghost use Prim.Native.Nat.{_+_, _<_, _≤_};
 ghost use lib.ListN.{length, take, replicate};
-ghost use Rattle.law.specs.Numbers.{mostHours, totalCells};
+ghost use Rattle.law.specs.Numbers.{totalCells};
 ghost use Rattle.rules.specs.Judge.{judgeRecord};
+ghost use Rattle.rules.specs.Row.{cells};
 ghost use Rattle.walk.specs.Views.{movedOn, foundOf};
 ghost use Rattle.walk.specs.Books.{noRows, inOpen, inDone};
 ghost use Rattle.walk.specs.Walking.{Reached, WalkPromise};
@@ -159,15 +161,13 @@ pub fn walk_records(
     conc: &mut [u32],
     flow: &mut [u32],
 ) -> Tally
-    requires { ⌜ (now rows ≡ noRows) × (now totals ≡ replicate totalCells 0) × (length (now conc) ≡ mostHours) × (length (now flow) ≡ mostHours) ⌝ }
+    requires { ⌜ (now rows ≡ noRows) × (now totals ≡ replicate totalCells 0) × (now conc ≡ cells []) × (now flow ≡ cells []) ⌝ }
     ensures { λ w. ⌜ WalkPromise (now (file .entry)) (inDone (now (rows .exit)) (now (totals .exit))) (now (conc .exit)) (now (flow .exit)) w ⌝ }
 {
     let mut runs = [0u32; 92];
     let mut measured = [0u32; 92];
     let mut states = [0u8; 2208];
     let mut flags = [0u32; 2208];
-    cells::clear_quarter(conc);
-    cells::clear_quarter(flow);
     let mut p = START;
     while p.at < file.len() {
         let q = step(

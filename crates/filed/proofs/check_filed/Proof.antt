@@ -7,16 +7,16 @@ use Rattle.filed.proofs.check_filed.Tie as tie
 
 returns : tie.Need-returns
 returns c =
-    let w = c .before .before .before in
-    c .own-refusal .ensures ∙ checked-own _ _ _ (w .account-of .ensures) _ _ (c .before .if1 .taken)
+    let w = c .before .before .before .before in
+    c .own-refusal .ensures ∙ checked-own _ _ _ (w .walk-alone .ensures) _ _ (c .before .if1 .taken)
 
 against-account-requires : tie.Need-against-account-requires
 against-account-requires c κs =
-    let e = c .before in
-    (e .if1 .left, rows-most _ _ _ (e .before .before .account-of .ensures) (e .if1 .left))
+    let e = c .before .before in
+    (e .if1 .left, rows-most _ _ _ (e .before .before .before .walk-alone .ensures) (e .if1 .left))
 
 returns-2 : tie.Need-returns-2
-returns-2 c = c .against-account .ensures _ (c .before .before .before .before .account-of .ensures)
+returns-2 c = c .against-account .ensures _ (c .before .before .before .before .before .before .walk-alone .ensures)
 
 pub check-filed-spec : {M : Type 1} → statement M
 check-filed-spec =

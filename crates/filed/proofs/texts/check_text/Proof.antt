@@ -10,15 +10,15 @@ use Rattle.filed.proofs.texts.check_text.Tie as tie
 
 returns : tie.Need-returns
 returns c =
-    let w = c .before .before .before in
-    c .own-refusal .ensures ∙ text-own _ _ _ (w .account-of .ensures) _ (c .before .if1 .taken)
+    let w = c .before .before .before .before in
+    c .own-refusal .ensures ∙ text-own _ _ _ (w .walk-alone .ensures) _ (c .before .if1 .taken)
 
 returns-2 : tie.Need-returns-2
 unfolding verdictOnPaper
 returns-2 c =
     let r = c .before .before .before in
-    let e = r .before .before in
-    let w = e .before .before .account-of .ensures in
+    let e = r .before .before .before in
+    let w = e .before .before .before .walk-alone .ensures in
     text-refused _ _ _ w (e .if1 .left) _ _ _ _ (r .read-filing .ensures) (c .if2 .taken) _ refl
 
 returns-3 : tie.Need-returns-3
@@ -26,23 +26,23 @@ unfolding verdictOnPaper refuse
 returns-3 c =
     let f = c .before in
     let r = f .before .before .before in
-    let e = r .before .before in
-    let w = e .before .before .account-of .ensures in
+    let e = r .before .before .before in
+    let w = e .before .before .before .walk-alone .ensures in
     text-long _ _ _ w (e .if1 .left) _ _ _ _ (r .read-filing .ensures) (f .if2 .left) (c .if3 .taken) _ refl
 
 against-account-requires : tie.Need-against-account-requires
 against-account-requires c κs =
     let f = c .before .before .before .before .before .before in
-    let e = f .before .before .before .before .before in
-    (e .if1 .left, rows-most _ _ _ (e .before .before .account-of .ensures) (e .if1 .left))
+    let e = f .before .before .before .before .before .before in
+    (e .if1 .left, rows-most _ _ _ (e .before .before .before .walk-alone .ensures) (e .if1 .left))
 
 returns-4 : tie.Need-returns-4
 returns-4 c =
     let else = c .before .before .before .before .before .before in
     let f = else .before in
     let r = f .before .before .before in
-    let e = r .before .before in
-    let w = e .before .before .account-of .ensures in
+    let e = r .before .before .before in
+    let w = e .before .before .before .walk-alone .ensures in
     text-checked _ _ _ w (e .if1 .left) _ _ _ _ (r .read-filing .ensures) (f .if2 .left) (omega arith) _ (c .against-account .ensures _ w)
 
 pub check-text-spec : {M : Type 1} → statement M

@@ -8,9 +8,8 @@ use Rattle.law.specs.Numbers.{mostDays, mostHours}
 use Rattle.rules.specs.Judge.{fine}
 use Rattle.walk.specs.Books.{inOpen, inDone}
 use Rattle.walk.specs.Walking.{Reached}
-use Rattle.walk.proofs.Cleared.{zeroed}
+use Rattle.walk.proofs.Cleared.{clear-long}
 use Rattle.walk.proofs.Going.{reached-start, walk-promise}
-use denote.Ref.{now}
 use Rattle.walk.proofs.turns.walk_records.Statement.{statement}
 use Rattle.walk.proofs.turns.walk_records.Tie as tie
 
@@ -24,11 +23,8 @@ abbrev μ-loop : tie.MeasureT-loop
 loop-holds : tie.Need-loop-holds Inv-loop μ-loop
 unfolding fine
 loop-holds c =
-    let second = c .before .before in
-    let first = second .before .before .before .before in
-    let start = first .before .before .before .before .before in
-    let p = start .pre in
-    (reached-start _ (replicate mostDays 0) (replicate mostDays 0) (replicate mostHours 0) (replicate mostHours 0) _ _ _ _ _ refl refl refl refl (p .0) (p .1) (zeroed (now (start .args .conc)) _ (p .2) (first .clear-quarter .ensures)) (zeroed (now (start .args .flow)) _ (p .3) (second .clear-quarter2 .ensures)) refl, omega arith, omega arith)
+    let p = c .before .before .before .pre in
+    (reached-start _ (replicate mostDays 0) (replicate mostDays 0) (replicate mostHours 0) (replicate mostHours 0) _ _ _ _ _ refl refl refl refl (p .0) (p .1) (p .2) (p .3) refl, clear-long _ (p .2), clear-long _ (p .3))
 
 step-requires : tie.Need-step-requires Inv-loop μ-loop
 step-requires c κs = let t = c .before .before .before .before .before .before .before .before in (t .before .before .loop .inv .0, t .if1 .taken)
@@ -40,10 +36,10 @@ loop-again : tie.Need-loop-again Inv-loop μ-loop
 loop-again c = let t = c .before .before .before .before in let i = t .before .before .before .before .before .before .before .before .before .before .before .loop .inv in (t .step .ensures .0, t .step .kept .1 .1 .1 .1 .1 .1 .0 ∙ i .1, t .step .kept .1 .1 .1 .1 .1 .1 .1 .0 ∙ i .2)
 
 same-length : tie.Need-same-length Inv-loop μ-loop
-same-length c = c .before .before .before .loop .inv .1 ∙ sym (c .before .before .before .before .before .before .before .before .before .before .before .before .before .before .before .pre .2)
+same-length c = c .before .before .before .loop .inv .1 ∙ sym (clear-long _ (c .before .before .before .before .before .before .before .pre .2))
 
 same-length-2 : tie.Need-same-length-2 Inv-loop μ-loop
-same-length-2 c = c .before .before .before .loop .inv .2 ∙ sym (c .before .before .before .before .before .before .before .before .before .before .before .before .before .before .before .pre .3)
+same-length-2 c = c .before .before .before .loop .inv .2 ∙ sym (clear-long _ (c .before .before .before .before .before .before .before .pre .3))
 
 returns : tie.Need-returns Inv-loop μ-loop
 returns c = walk-promise _ _ _ _ (c .before .before .before .loop .inv .0) (c .before .if1 .left) _ (c .found .ensures)
@@ -54,8 +50,6 @@ walk-records-spec =
     (tie.spec
     Inv-loop
     μ-loop
-    (λ c κs. search needs)
-    (λ c κs. search needs)
     loop-holds
     step-requires
     loop-less
