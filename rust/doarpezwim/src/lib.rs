@@ -18,7 +18,7 @@
 //! The calls are proved in Rattle and linked from a static archive. They answer what document 01 with requests A1 to
 //! A3, A5 and A6 says for every input, read and write nothing but what they are lent, allocate nothing and keep no
 //! state. This crate adds types, and the borrow rules that the C interface cannot state; it is not proved itself. An
-//! account takes about 38 KB of stack, a check 58 KB.
+//! account takes about 36 KB of stack, a check 54 KB.
 #![warn(missing_docs)]
 
 mod account;
