@@ -21,7 +21,7 @@ use Rattle.answers.specs.Answers.{Stated, Denied}
 use Rattle.answers.proofs.Answers.{by-outcome, denied-by}
 use Rattle.answers.proofs.Rows.{rows-long}
 use Rattle.walk.specs.Books.{noRows}
-use Rattle.walk.specs.Walking.{Alone}
+use Rattle.walk.specs.Walking.{Unlent}
 use Rattle.walk.proofs.Promises.{no-rows-long}
 use Rattle.filing.specs.declared.Filing.{Filing}
 use Rattle.filing.specs.Filing.{readOf, Promise as Reads}
@@ -40,7 +40,7 @@ cells-kept cells rows rows' n e l h =
 pub front-long : (t : List ℕ) (n : ℕ) → n ≤ length t → length (take (n - 0) (drop 0 t)) ≡ n
 front-long t n l = omega (arith, length-take (n - 0) t)
 
-module _ (file : List ℕ) (a : Answer) (t : List ℕ) (w : Alone file a t) where
+module _ (file : List ℕ) (a : Answer) (t : List ℕ) (w : Unlent file a t) where
   -- a number that is not 0 is the file's own refusal: cells for the rows of 48 lines are enough
   own-by : Denied file a → outcome file ≡ Refused (record { number = a .number; place = a .place })
   unfolding refusal

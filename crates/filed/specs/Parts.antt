@@ -5,7 +5,7 @@ use mathlib.Core.Path.{_≡_}
 use lib.ListN.{length, getD}
 use Rattle.rules.specs.declared.Answer.{Answer}
 use Rattle.rules.specs.OnPaper.{OnPaper}
-use Rattle.walk.specs.Walking.{Alone}
+use Rattle.walk.specs.Walking.{Unlent}
 use Rattle.filed.specs.Filed.{checked}
 
 -- the first place at which filed cells are not the right ones, or how many of these there are
@@ -16,4 +16,4 @@ pub record FirstWrong (filed right : List ℕ) (k : ℕ) : Type 0 where
 
 -- what is said of a filing, of any file that was answered so
 abbrev pub CheckedBy : Answer → List ℕ → List ℕ → List ℕ → OnPaper → Type 0
-CheckedBy answer table rows totals said = (file : List ℕ) → Alone file answer table → said ≡ checked file rows totals
+CheckedBy answer table rows totals said = (file : List ℕ) → Unlent file answer table → said ≡ checked file rows totals

@@ -26,7 +26,7 @@ pub enum Verdict {
 pub fn check_filed(file: &[u8], rows: &[u64], totals: &[u64; 5]) -> Verdict
     ensures { λ r. ⌜ verdictOnPaper r ≡ checked (now (file .entry)) (now (rows .entry)) (now (totals .entry)) ⌝ }
 {
-    let w = walk::walk_alone(file);
+    let w = walk::walk_unlent(file);
     let a = w.answer;
     if a.number != 0 {
         return own_refusal(a);

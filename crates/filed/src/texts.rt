@@ -13,7 +13,7 @@ ghost use Rattle.text.specs.Text.{Text};
 pub fn check_text(file: &[u8], text: &[u8]) -> Verdict
     ensures { λ r. ⌜ verdictOnPaper r ≡ checkedText (now (file .entry)) (now (text .entry)) ⌝ }
 {
-    let w = walk::walk_alone(file);
+    let w = walk::walk_unlent(file);
     let a = w.answer;
     if a.number != 0 {
         return own_refusal(a);

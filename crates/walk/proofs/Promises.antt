@@ -16,7 +16,7 @@ use Rattle.rules.specs.Account.{acceptance, rowsFit, workFits, answerFrom, answ
 use Rattle.walk.specs.declared.turns.Tally.{Tally}
 use Rattle.walk.specs.declared.Walked.{Walked}
 use Rattle.walk.specs.Books.{noRows, Done}
-use Rattle.walk.specs.Walking.{stopped, answered, WalkPromise, Settled, Alone}
+use Rattle.walk.specs.Walking.{stopped, answered, WalkPromise, Settled, Unlent}
 use Rattle.walk.proofs.Cleared.{zeroed}
 use Rattle.walk.proofs.Going.{zeros}
 
@@ -88,5 +88,5 @@ module _ (file : List ℕ) (d : Done) (conc flow : List ℕ) (w : Tally) (p : Wa
       })
 
 -- what a walk with work tables of its own promises is half of it
-pub alone : (file : List ℕ) (r : Answer) (rows conc flow : List ℕ) → Settled file noRows r rows conc flow → Alone file r rows
-alone file r rows conc flow s = record { answers = s .answers; leaves = s .leaves }
+pub unlent : (file : List ℕ) (r : Answer) (rows conc flow : List ℕ) → Settled file noRows r rows conc flow → Unlent file r rows
+unlent file r rows conc flow s = record { answers = s .answers; leaves = s .leaves }

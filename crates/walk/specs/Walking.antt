@@ -87,7 +87,7 @@ pub record Settled (file rows : List ℕ) (r : Answer) (rows' conc flow : List �
   pub concentrationsHold : conc ≡ cellsFrom concentrationCells (length rows) (outcome file)
   pub flowsHold : flow ≡ cellsFrom flowCells (length rows) (outcome file)
 
--- the promise of `walk_alone`: answer and rows, as if 336 cleared cells were lent for these
-pub record Alone (file : List ℕ) (r : Answer) (rows : List ℕ) : Type 0 where
+-- the promise of `walk_unlent`: answer and rows, as if 336 cleared cells were lent for these
+pub record Unlent (file : List ℕ) (r : Answer) (rows : List ℕ) : Type 0 where
   pub answers : r ≡ answerFrom (length noRows) (outcome file)
   pub leaves : rows ≡ rowsFrom noRows (outcome file)

@@ -16,7 +16,7 @@ ghost use Rattle.law.specs.Numbers.{mostHours};
 ghost use Rattle.rules.specs.Row.{cells};
 ghost use Rattle.rules.specs.Account.{Promise};
 ghost use Rattle.walk.specs.Books.{noRows};
-ghost use Rattle.walk.specs.Walking.{stopped, answered, Settled, Alone};
+ghost use Rattle.walk.specs.Walking.{stopped, answered, Settled, Unlent};
 
 // The answer to a file, with cells for the rows of 48 lines.
 pub struct Walked {
@@ -101,8 +101,8 @@ pub fn walk_file(file: &[u8], concentrations: &mut [u32], flows: &mut [u32]) -> 
 }
 
 // The same with work tables of its own, which are clear as they are made.
-pub fn walk_alone(file: &[u8]) -> Walked
-    ensures { λ r. ⌜ Alone (now (file .entry)) (r .answer) (r .rows) ⌝ }
+pub fn walk_unlent(file: &[u8]) -> Walked
+    ensures { λ r. ⌜ Unlent (now (file .entry)) (r .answer) (r .rows) ⌝ }
 {
     let mut conc = [0u32; 2208];
     let mut flow = [0u32; 2208];

@@ -11,14 +11,14 @@ use Rattle.filed.proofs.texts.check_text.Tie as tie
 returns : tie.Need-returns
 returns c =
     let w = c .before .before .before .before in
-    c .own-refusal .ensures ∙ text-own _ _ _ (w .walk-alone .ensures) _ (c .before .if1 .taken)
+    c .own-refusal .ensures ∙ text-own _ _ _ (w .walk-unlent .ensures) _ (c .before .if1 .taken)
 
 returns-2 : tie.Need-returns-2
 unfolding verdictOnPaper
 returns-2 c =
     let r = c .before .before .before in
     let e = r .before .before .before in
-    let w = e .before .before .before .walk-alone .ensures in
+    let w = e .before .before .before .walk-unlent .ensures in
     text-refused _ _ _ w (e .if1 .left) _ _ _ _ (r .read-filing .ensures) (c .if2 .taken) _ refl
 
 returns-3 : tie.Need-returns-3
@@ -27,14 +27,14 @@ returns-3 c =
     let f = c .before in
     let r = f .before .before .before in
     let e = r .before .before .before in
-    let w = e .before .before .before .walk-alone .ensures in
+    let w = e .before .before .before .walk-unlent .ensures in
     text-long _ _ _ w (e .if1 .left) _ _ _ _ (r .read-filing .ensures) (f .if2 .left) (c .if3 .taken) _ refl
 
 against-account-requires : tie.Need-against-account-requires
 against-account-requires c κs =
     let f = c .before .before .before .before .before .before in
     let e = f .before .before .before .before .before .before in
-    (e .if1 .left, rows-most _ _ _ (e .before .before .before .walk-alone .ensures) (e .if1 .left))
+    (e .if1 .left, rows-most _ _ _ (e .before .before .before .walk-unlent .ensures) (e .if1 .left))
 
 returns-4 : tie.Need-returns-4
 returns-4 c =
@@ -42,7 +42,7 @@ returns-4 c =
     let f = else .before in
     let r = f .before .before .before in
     let e = r .before .before .before in
-    let w = e .before .before .before .walk-alone .ensures in
+    let w = e .before .before .before .walk-unlent .ensures in
     text-checked _ _ _ w (e .if1 .left) _ _ _ _ (r .read-filing .ensures) (f .if2 .left) (omega arith) _ (c .against-account .ensures _ w)
 
 pub check-text-spec : {M : Type 1} → statement M
