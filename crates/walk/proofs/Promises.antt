@@ -16,7 +16,7 @@ use Rattle.rules.specs.Account.{acceptance, rowsFit, workFits, answerFrom, answ
 use Rattle.walk.specs.declared.turns.Tally.{Tally}
 use Rattle.walk.specs.declared.Walked.{Walked}
 use Rattle.walk.specs.Books.{noRows, Done}
-use Rattle.walk.specs.Walking.{stopped, answered, WalkPromise, Settled, Unlent}
+use Rattle.walk.specs.Walking.{stopped, answered, WalkPromise, Settled}
 use Rattle.walk.proofs.Cleared.{zeroed}
 use Rattle.walk.proofs.Going.{zeros}
 
@@ -46,14 +46,14 @@ module _ (file conc flow : List ℕ) where
   promise-9 r e q = rw q (record { answers = rw e; leaves = rw e; concentrationsHold = rw e; flowsHold = rw e })
 
   -- ---- both are lent on: their first 2,208 cells come back
-  pub promise-settled : (r : Answer) (rows' cs fs : List ℕ) → mostHours ≤ length conc → mostHours ≤ length flow → Settled file noRows r rows' cs fs
+  pub promise-settled : (r : Answer) (rows' cs fs : List ℕ) → mostHours ≤ length conc → mostHours ≤ length flow → Settled file r rows' cs fs
       → Promise file noRows conc flow r rows' (cs ++ drop mostHours conc) (fs ++ drop mostHours flow)
   unfolding answerOf rowsAfter workAfter need
   promise-settled r rows' cs fs a b s =
       let work = fits-work (length conc) (length flow) a b in
       record {
-        answers = s .answers ∙ rw work;
-        leaves = s .leaves ∙ rw work;
+        answers = s .walked .answers ∙ rw work;
+        leaves = s .walked .leaves ∙ rw work;
         concentrationsHold = ap (λ (t : List ℕ). t ++ drop mostHours conc) (s .concentrationsHold) ∙ rw work;
         flowsHold = ap (λ (t : List ℕ). t ++ drop mostHours flow) (s .flowsHold) ∙ rw work;
       }
@@ -70,23 +70,18 @@ no-rows-long = length-replicate {A = ℕ} mostCells 0
 module _ (file : List ℕ) (d : Done) (conc flow : List ℕ) (w : Tally) (p : WalkPromise file d conc flow w) where
   -- a file that is refused leaves no row and no cell
   pub settled-stopped : (w .fault .number ≡ 0 → ⊥) → (r : Walked) (conc' flow' : List ℕ) → r ≡ stopped (w .fault) → conc' ≡ cells [] → flow' ≡ cells []
-      → Settled file noRows (r .answer) (r .rows) conc' flow'
+      → Settled file (r .answer) (r .rows) conc' flow'
   unfolding answerFrom rowsFrom cellsFrom
-  settled-stopped n r conc' flow' e c l = let o = p .refuses n in rw (e, c, l) (record { answers = rw o; leaves = rw o; concentrationsHold = rw o; flowsHold = rw o })
+  settled-stopped n r conc' flow' e c l = let o = p .refuses n in rw (e, c, l) (record { walked = record { answers = rw o; leaves = rw o }; concentrationsHold = rw o; flowsHold = rw o })
 
   -- a file that is accepted has cells enough for its rows
-  pub settled-0 : w .fault .number ≡ 0 → (r : Walked) → r ≡ answered (w .lines) (d .totals) (d .rows) → Settled file noRows (r .answer) (r .rows) conc flow
+  pub settled-0 : w .fault .number ≡ 0 → (r : Walked) → r ≡ answered (w .lines) (d .totals) (d .rows) → Settled file (r .answer) (r .rows) conc flow
   unfolding answerFrom rowsFrom cellsFrom rowsFit acceptance need
   settled-0 z r q =
       let e = p .ends z in
       let n : leb (rowCells * length (e .lines)) (length noRows) ≡ true = le-leb (rowCells * length (e .lines)) (length noRows) (omega (arith, e .most, no-rows-long)) in
       rw q (record {
-        answers = rw (e .count, e .totals, e .accepted, n);
-        leaves = e .rows ∙ rw (e .accepted, n);
+        walked = record { answers = rw (e .count, e .totals, e .accepted, n); leaves = e .rows ∙ rw (e .accepted, n) };
         concentrationsHold = e .concHeld ∙ rw (e .accepted, n);
         flowsHold = e .flowHeld ∙ rw (e .accepted, n);
       })
-
--- what a walk with work tables of its own promises is half of it
-pub unlent : (file : List ℕ) (r : Answer) (rows conc flow : List ℕ) → Settled file noRows r rows conc flow → Unlent file r rows
-unlent file r rows conc flow s = record { answers = s .answers; leaves = s .leaves }

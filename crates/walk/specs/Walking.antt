@@ -80,14 +80,13 @@ stopped f = record { answer = refusal f; rows = noRows }
 abbrev pub answered : ℕ → List ℕ → List ℕ → Walked
 answered lines totals rows = record { answer = record { number = 0; place = 0; rows = lines; totals = totals }; rows = rows }
 
--- a file that is walked, and its work slices of 2,208 cells: what the promise of `account` asks where both are lent
-pub record Settled (file rows : List ℕ) (r : Answer) (rows' conc flow : List ℕ) : Type 0 where
-  pub answers : r ≡ answerFrom (length rows) (outcome file)
-  pub leaves : rows' ≡ rowsFrom rows (outcome file)
-  pub concentrationsHold : conc ≡ cellsFrom concentrationCells (length rows) (outcome file)
-  pub flowsHold : flow ≡ cellsFrom flowCells (length rows) (outcome file)
-
 -- the promise of `walk_unlent`: answer and rows, as if 336 cleared cells were lent for these
 pub record Unlent (file : List ℕ) (r : Answer) (rows : List ℕ) : Type 0 where
   pub answers : r ≡ answerFrom (length noRows) (outcome file)
   pub leaves : rows ≡ rowsFrom noRows (outcome file)
+
+-- the same with two work slices of 2,208 cells: what the promise of `account` asks where both are lent
+pub record Settled (file : List ℕ) (r : Answer) (rows conc flow : List ℕ) : Type 0 where
+  pub walked : Unlent file r rows
+  pub concentrationsHold : conc ≡ cellsFrom concentrationCells (length noRows) (outcome file)
+  pub flowsHold : flow ≡ cellsFrom flowCells (length noRows) (outcome file)

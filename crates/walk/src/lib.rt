@@ -73,7 +73,7 @@ fn stop(f: Fault, conc: &mut [u32], flow: &mut [u32]) -> Walked
 // The walk where both work tables have 2,208 cells.
 fn settle(file: &[u8], conc: &mut [u32], flow: &mut [u32]) -> Walked
     requires { ⌜ (length (now conc) ≡ mostHours) × (length (now flow) ≡ mostHours) ⌝ }
-    ensures { λ r. ⌜ Settled (now (file .entry)) noRows (r .answer) (r .rows) (now (conc .exit)) (now (flow .exit)) ⌝ }
+    ensures { λ r. ⌜ Settled (now (file .entry)) (r .answer) (r .rows) (now (conc .exit)) (now (flow .exit)) ⌝ }
 {
     cells::clear_quarter(conc);
     cells::clear_quarter(flow);

@@ -3,7 +3,7 @@ use borrow.Author.Needs.{needs}
 use mathlib.Core.Path.{refl}
 use Rattle.rules.specs.Row.{cells}
 use Rattle.walk.specs.Books.{noRows}
-use Rattle.walk.proofs.Promises.{unlent, settled-stopped, settled-0}
+use Rattle.walk.proofs.Promises.{settled-stopped, settled-0}
 use Rattle.walk.proofs.walk_unlent.Statement.{statement}
 use Rattle.walk.proofs.walk_unlent.Tie as tie
 
@@ -14,12 +14,12 @@ walk-records-requires c κs = (refl, refl, refl, refl)
 returns : tie.Need-returns
 returns c =
     let t = c .before in
-    unlent _ _ _ _ _ (settled-stopped _ _ _ _ _ (t .before .before .before .before .before .walk-records .ensures) (t .if1 .taken) _ _ _ (c .refused .ensures) refl refl)
+    settled-stopped _ _ _ _ _ (t .before .before .before .before .before .walk-records .ensures) (t .if1 .taken) _ _ _ (c .refused .ensures) refl refl .walked
 
 returns-2 : tie.Need-returns-2
 returns-2 c =
     let t = c .before in
-    unlent _ _ _ _ _ (settled-0 _ _ _ _ _ (t .before .before .before .before .before .walk-records .ensures) (t .if1 .left) _ (c .accepted .ensures))
+    settled-0 _ _ _ _ _ (t .before .before .before .before .before .walk-records .ensures) (t .if1 .left) _ (c .accepted .ensures) .walked
 
 pub walk-unlent-spec : {M : Type 1} → statement M
 walk-unlent-spec =
