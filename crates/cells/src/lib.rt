@@ -1,9 +1,7 @@
-// Lists of cells: counted, cleared, and written from the front.
+// Lists of cells: cleared and written from the front.
 ghost use mathlib.Core.Path.{_≡_};
 ghost use Prim.Native.Nat.{min};
 ghost use lib.ListN.{length, getD};
-ghost use lib.Dec.{leb};
-ghost use Rattle.law.specs.Numbers.{mostHours};
 ghost use Rattle.law.specs.Words.{table, over};
 
 // Every cell becomes 0.
@@ -23,20 +21,6 @@ pub fn clear_first(cells: &mut [u32], n: usize)
 {
     let m = lesser(n, cells.len());
     clear(&mut cells[0..m]);
-}
-
-// "The first 2,208 work cells become zero." "Cells past 2,208 are never written."
-pub fn clear_quarter(cells: &mut [u32])
-    ensures { λ _. ⌜ now (cells .exit) ≡ over (λ h. 0) (min mostHours (length (now (cells .entry)))) (now (cells .entry)) ⌝ }
-{
-    clear_first(cells, 2208);
-}
-
-// Whether a work slice has its 2,208 cells.
-pub fn holds_quarter(cells: &[u32]) -> bool
-    ensures { λ r. ⌜ r ≡ leb mostHours (length (now (cells .entry))) ⌝ }
-{
-    cells.len() >= 2208
 }
 
 // The lesser of two counts.

@@ -1,18 +1,14 @@
--- The figures of a survey are those of its readings; its hour's flag. Assumes nothing.
-use mathlib.Core.Path.{_≡_, sym, ap, _∙_}
-use mathlib.Core.Bool.{Bool, false, _&&_}
+-- The figures of a survey are those of its readings. Assumes nothing.
+use mathlib.Core.Path.{_≡_, ap, _∙_}
 use mathlib.Core.List.{List}
-use Prim.Native.Nat.{ℕ, _*_, _<_, _≤_}
-use lib.ListN.{getD, set}
-use lib.Dec.{eqb}
-use borrow.Author.Tests.{lt-ltb, le-ltb}
-use Rattle.law.specs.Numbers.{mostHours}
+use Prim.Native.Nat.{ℕ, _*_}
+use lib.ListN.{set}
 use Rattle.reading.specs.declared.FlaggedPair.{FlaggedPair}
 use Rattle.reading.specs.Reading.{flaggedPair, flaggedHour}
 use Rattle.rules.specs.Hours.{measuredOf}
 use Rattle.rules.specs.declared.Survey.{Survey}
 use Rattle.line.specs.declared.surveyed.Weighed.{Weighed}
-use Rattle.line.specs.Put.{inTables, surveyC, surveyL, standing, PutAt, beats}
+use Rattle.line.specs.Put.{inTables, surveyC, surveyL, standing, PutAt}
 
 module _ (t : Survey) (r : FlaggedPair) (e : r ≡ flaggedHour (measuredOf (t .pair))) where
   pub concentration-is : r .concentration ≡ surveyC t
@@ -22,15 +18,6 @@ module _ (t : Survey) (r : FlaggedPair) (e : r ≡ flaggedHour (measuredOf (t .p
   pub flow-is : r .flow ≡ surveyL t
   unfolding flaggedPair flaggedHour
   flow-is = ap (λ (f : FlaggedPair). f .flow) e
-
--- ---- an hour's flag: within the quarter, and past it
-pub beats-within : (flags : List ℕ) (h : ℕ) → h < mostHours → eqb (getD flags h 0) 1 ≡ beats flags h
-unfolding beats
-beats-within flags h l = sym (ap (λ (t : Bool). t && eqb (getD flags h 0) 1) (lt-ltb h mostHours l))
-
-pub beats-past : (flags : List ℕ) (h : ℕ) → mostHours ≤ h → false ≡ beats flags h
-unfolding beats
-beats-past flags h l = sym (ap (λ (t : Bool). t && eqb (getD flags h 0) 1) (le-ltb h mostHours l))
 
 -- the tables, each by itself
 pub tables-are : (a b c d a' b' c' d' : List ℕ) → a ≡ a' → b ≡ b' → c ≡ c' → d ≡ d' → inTables a b c d ≡ inTables a' b' c' d'

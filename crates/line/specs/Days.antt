@@ -8,7 +8,7 @@ use lib.Dec.{eqb}
 use Rattle.law.specs.Words.{pick, seek}
 use Rattle.rules.specs.declared.Survey.{Survey}
 use Rattle.line.specs.declared.surveyed.Weighed.{Weighed}
-use Rattle.line.specs.Put.{surveyC, surveyL, standing, nothing, PutAt}
+use Rattle.line.specs.Put.{surveyC, surveyL, standing, nothing}
 
 -- 1 for a day of state 1, "missing"
 unfoldable pub lacksOn : List ℕ → ℕ → ℕ
@@ -18,12 +18,8 @@ lacksOn states day = pick (eqb (getD states day 0) 1) 1 0
 unfoldable pub firstLacking : List ℕ → ℕ → ℕ
 firstLacking states days = seek (λ d. eqb (lacksOn states d) 1) (λ d. d + 1) 0 0 days
 
--- a survey that stands: its day is measured, with its values, and weighed
-abbrev pub DayPut : Survey → List ℕ → List ℕ → List ℕ → List ℕ → List ℕ → List ℕ → Weighed → Type 0
-DayPut t states conc flow states' conc' flow' r = PutAt t (lacksOn states (t .hour)) states conc flow states' conc' flow' r
-
--- a plant survey: beaten by an enforcement survey at its day, or one that stands
-pub record DayPlantPut (t : Survey) (beaten : Bool) (states conc flow states' conc' flow' : List ℕ) (r : Weighed) : Type 0 where
+-- a survey: one that is beaten, or one that stands: its day is measured, with its values, and weighed
+pub record DayPut (t : Survey) (beaten : Bool) (states conc flow states' conc' flow' : List ℕ) (r : Weighed) : Type 0 where
   pub weighs : r ≡ pick beaten nothing (standing (surveyC t) (surveyL t) (lacksOn states (t .hour)))
   pub statesNow : states' ≡ pick beaten states (set states (t .hour) 2)
   pub concNow : conc' ≡ pick beaten conc (set conc (t .hour) (surveyC t))

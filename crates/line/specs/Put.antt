@@ -1,11 +1,9 @@
 -- A survey put in at its hour of a line's period, and weighed.
 use Prim.Native.Nat.{ℕ, _*_}
-use mathlib.Core.Bool.{Bool, _&&_}
+use mathlib.Core.Bool.{Bool}
 use mathlib.Core.List.{List}
 use mathlib.Core.Path.{_≡_}
-use lib.ListN.{getD, set}
-use lib.Dec.{eqb, ltb}
-use Rattle.law.specs.Numbers.{mostHours}
+use lib.ListN.{set}
 use Rattle.law.specs.Words.{pick}
 use Rattle.reading.specs.Reading.{reading, concentrationOf, flowOf, flaggedOf}
 use Rattle.rules.specs.declared.Survey.{Survey}
@@ -47,16 +45,7 @@ pub record PutAt (t : Survey) (found : ℕ) (states conc flow states' conc' flow
 abbrev pub measuredAt : ℕ → ℕ → ℕ → Tables → Tables
 measuredAt h c l o = inTables (withMeasured h (o .measured)) (set (o .states) h 2) (set (o .concentrations) h c) (set (o .flows) h l)
 
--- a survey that stands: its hour is measured, with its values, and weighed
-pub record SurveyPut (t : Survey) (runs : List ℕ) (o o' : Tables) (r : Weighed) : Type 0 where
-  pub weighs : r ≡ standing (surveyC t) (surveyL t) (foundBy (t .hour) runs (o .measured))
-  pub tables : o' ≡ measuredAt (t .hour) (surveyC t) (surveyL t) o
-
--- whether an hour has an enforcement survey, by the flags of a quarter's hours
-unfoldable pub beats : List ℕ → ℕ → Bool
-beats flags h = ltb h mostHours && eqb (getD flags h 0) 1
-
--- a plant survey: beaten by an enforcement survey at its hour, or one that stands
-pub record PlantPut (t : Survey) (beaten : Bool) (runs : List ℕ) (o o' : Tables) (r : Weighed) : Type 0 where
+-- a survey: one that is beaten, or one that stands: its hour is measured, with its values, and weighed
+pub record SurveyPut (t : Survey) (beaten : Bool) (runs : List ℕ) (o o' : Tables) (r : Weighed) : Type 0 where
   pub weighs : r ≡ pick beaten nothing (standing (surveyC t) (surveyL t) (foundBy (t .hour) runs (o .measured)))
   pub tables : o' ≡ pick beaten o (measuredAt (t .hour) (surveyC t) (surveyL t) o)

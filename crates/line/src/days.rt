@@ -1,12 +1,10 @@
 // A survey put in at its day of an outfall's line, and weighed; the first missing day.
 use crate::surveyed::Weighed;
-use crate::surveyed::is_flagged;
 use crate::surveyed::none_added;
 use crate::surveyed::put_at;
 use rules::Survey;
 ghost use mathlib.Core.Path.{_≡_};
-ghost use Rattle.line.specs.Put.{beats};
-ghost use Rattle.line.specs.Days.{lacksOn, firstLacking, DayPut, DayPlantPut};
+ghost use Rattle.line.specs.Days.{lacksOn, firstLacking, DayPut};
 
 // 1 for a day that runs without data; past the states 0.
 fn lacks_day(states: &[u8], day: usize) -> u32
@@ -35,26 +33,20 @@ pub fn first_missing_day(states: &[u8], days: u8) -> u32
     0
 }
 
-// A survey that stands: its day, missing or not, is measured.
-pub fn put_on_day(t: Survey, states: &mut [u8], conc: &mut [u32], flow: &mut [u32]) -> Weighed
-    ensures { λ r. ⌜ DayPut t (now (states .entry)) (now (conc .entry)) (now (flow .entry)) (now (states .exit)) (now (conc .exit)) (now (flow .exit)) r ⌝ }
-{
-    let found = lacks_day(states, t.hour as usize);
-    put_at(t, found, states, conc, flow)
-}
-
-// "Surveys act on days as on hours": where an enforcement survey stands a plant survey changes nothing and weighs nothing.
-pub fn put_plant_on_day(
+// "Surveys act on days as on hours": one that is beaten changes nothing and weighs nothing; the day of one that stands, missing or not, is measured.
+pub fn put_on_day(
     t: Survey,
-    flags: &[u32; 2208],
+    beaten: bool,
     states: &mut [u8],
     conc: &mut [u32],
     flow: &mut [u32],
 ) -> Weighed
-    ensures { λ r. ⌜ DayPlantPut t (beats (now (flags .entry)) (t .hour)) (now (states .entry)) (now (conc .entry)) (now (flow .entry)) (now (states .exit)) (now (conc .exit)) (now (flow .exit)) r ⌝ }
+    ensures { λ r. ⌜ DayPut t beaten (now (states .entry)) (now (conc .entry)) (now (flow .entry))
+        (now (states .exit)) (now (conc .exit)) (now (flow .exit)) r ⌝ }
 {
-    if is_flagged(flags, t.hour) {
+    if beaten {
         return none_added();
     }
-    put_on_day(t, states, conc, flow)
+    let found = lacks_day(states, t.hour as usize);
+    put_at(t, found, states, conc, flow)
 }

@@ -1,10 +1,9 @@
 // A survey put in at its hour of a line's period, and weighed; what it does to its hour, or to its day of an outfall.
 use crate::marked::mark_state;
 use crate::marked::put_cell;
-use crate::product;
 use rules::Survey;
 ghost use mathlib.Core.Path.{_≡_};
-ghost use Rattle.line.specs.Put.{inTables, nothing, beats, PutAt, SurveyPut, PlantPut};
+ghost use Rattle.line.specs.Put.{inTables, nothing, PutAt, SurveyPut};
 
 // What a survey adds to those of a line: one hour and its c x l, or nothing; and how many missing hours fewer the line has.
 pub struct Weighed {
@@ -30,36 +29,9 @@ pub fn put_at(
     put_cell(t.hour, f.flow, flow);
     Weighed {
         count: 1,
-        weight: product(f.concentration, f.flow),
+        weight: (f.concentration as u64) * (f.flow as u64),
         found,
     }
-}
-
-// Its hour, missing or not, has its bit in the measured mask of its day.
-pub fn put_survey(
-    t: Survey,
-    runs: &[u32],
-    measured: &mut [u32],
-    states: &mut [u8],
-    conc: &mut [u32],
-    flow: &mut [u32],
-) -> Weighed
-    ensures { λ r. ⌜ SurveyPut t (now (runs .entry)) (inTables (now (measured .entry)) (now (states .entry)) (now (conc .entry)) (now (flow .entry)))
-        (inTables (now (measured .exit)) (now (states .exit)) (now (conc .exit)) (now (flow .exit))) r ⌝ }
-{
-    let found = hours::mark_measured(runs, measured, t.hour);
-    put_at(t, found, states, conc, flow)
-}
-
-// Whether an hour has an enforcement survey; past the quarter none has.
-pub fn is_flagged(flags: &[u32; 2208], hour: u16) -> bool
-    ensures { λ r. ⌜ r ≡ beats (now (flags .entry)) hour ⌝ }
-{
-    let h = hour as usize;
-    if h >= 2208 {
-        return false;
-    }
-    flags[h] == 1
 }
 
 // What a beaten survey adds.
@@ -73,21 +45,23 @@ pub fn none_added() -> Weighed
     }
 }
 
-// "Enforcement beats plant at one hour": there a plant survey changes nothing and weighs nothing.
-pub fn put_plant(
+// "Enforcement beats plant at one hour": a survey that is beaten changes nothing and weighs nothing. The hour of one that stands, missing or not, has its bit
+// in the measured mask of its day.
+pub fn put_survey(
     t: Survey,
-    flags: &[u32; 2208],
+    beaten: bool,
     runs: &[u32],
     measured: &mut [u32],
     states: &mut [u8],
     conc: &mut [u32],
     flow: &mut [u32],
 ) -> Weighed
-    ensures { λ r. ⌜ PlantPut t (beats (now (flags .entry)) (t .hour)) (now (runs .entry)) (inTables (now (measured .entry)) (now (states .entry)) (now (conc .entry)) (now (flow .entry)))
+    ensures { λ r. ⌜ SurveyPut t beaten (now (runs .entry)) (inTables (now (measured .entry)) (now (states .entry)) (now (conc .entry)) (now (flow .entry)))
         (inTables (now (measured .exit)) (now (states .exit)) (now (conc .exit)) (now (flow .exit))) r ⌝ }
 {
-    if is_flagged(flags, t.hour) {
+    if beaten {
         return none_added();
     }
-    put_survey(t, runs, measured, states, conc, flow)
+    let found = hours::mark_measured(runs, measured, t.hour);
+    put_at(t, found, states, conc, flow)
 }

@@ -17,15 +17,15 @@ const TOO_FEW: Answer = Answer {
     totals: [0; 5],
 };
 
-// 8: the first 2,208 cells of both work slices cleared, and the refusal answered.
+// 8: "The first 2,208 work cells become zero", "cells past 2,208 are never written", and the refusal answered.
 fn too_few_rows(concentrations: &mut [u32], flows: &mut [u32]) -> Answer
     requires { ⌜ (mostHours ≤ length (now concentrations)) × (mostHours ≤ length (now flows)) ⌝ }
     ensures { λ r. ⌜ (r ≡ refusal (refuse 8 0))
         × (now (concentrations .exit) ≡ cells [] ++ drop mostHours (now (concentrations .entry)))
         × (now (flows .exit) ≡ cells [] ++ drop mostHours (now (flows .entry))) ⌝ }
 {
-    cells::clear_quarter(concentrations);
-    cells::clear_quarter(flows);
+    cells::clear_first(concentrations, 2208);
+    cells::clear_first(flows, 2208);
     TOO_FEW
 }
 

@@ -29,14 +29,13 @@ use Rattle.rules.specs.Walk.{Between, InWater, viewOf, begunOutfall, withWaterD
 use Rattle.day.proofs.Laws.{PairAccepted}
 use Rattle.line.specs.declared.surveyed.Weighed.{Weighed}
 use Rattle.line.specs.Line.{rowIn}
-use Rattle.line.specs.Put.{standing, nothing, surveyC, surveyL, beats}
+use Rattle.line.specs.Put.{standing, nothing, surveyC, surveyL, PutAt}
 use Rattle.line.specs.Days.{lacksOn, firstLacking, DayPut}
-use Rattle.line.proofs.Surveys.{beats-within}
 use Rattle.walk.specs.declared.books.Sums.{Sums}
 use Rattle.walk.specs.declared.take.Taken.{Taken}
 use Rattle.walk.specs.Views.{afterHead, afterWaterDay, afterEnforcement, afterPlant, afterEnd, withSurvey}
 use Rattle.walk.specs.Books.{flagAt, Open, inOpen, Done, Long, WaterBooks, Kept}
-use Rattle.walk.specs.Taking.{pairC, pairL, HeadTaken, WaterDayTaken, DayEnforcementTaken, DayPlantTaken, WaterEndTaken}
+use Rattle.walk.specs.Taking.{beats, pairC, pairL, HeadTaken, WaterDayTaken, DayEnforcementTaken, DayPlantTaken, WaterEndTaken}
 use Rattle.walk.proofs.Cleared.{cells-past}
 use Rattle.walk.proofs.Views.{survey-count}
 use Rattle.walk.proofs.Steps.{besides-most}
@@ -120,8 +119,19 @@ module _ (x : OutfallLine) (done : List Line) (v : View) (s : Sums) (t : Survey)
     figures-are : (P : ℕ → ℕ → Type 0) → P (surveyC t) (surveyL t) → P c l
     figures-are P p = subst₂ P (accepted-c (t .pair) ok) (accepted-l (t .pair) ok) p
 
+    -- one that is not beaten is put in
+    put-in : (beaten : Bool) (states' conc' flow' : List ℕ) (w : Weighed) → beaten ≡ false → DayPut t beaten (o .states) (o .concentrations) (o .flows) states' conc' flow' w
+        → PutAt t found (o .states) (o .concentrations) (o .flows) states' conc' flow' w
+    put-in beaten states' conc' flow' w q p =
+        record {
+          weighs = p .weighs ∙ sym (pick-false _ _ _ _ q refl);
+          statesNow = p .statesNow ∙ sym (pick-false _ _ _ _ q refl);
+          concNow = p .concNow ∙ sym (pick-false _ _ _ _ q refl);
+          flowNow = p .flowNow ∙ sym (pick-false _ _ _ _ q refl);
+        }
+
     -- a survey that stands, for the line y that has it
-    stands : (y : OutfallLine) (flags' states' conc' flow' : List ℕ) (w : Weighed) (r : Taken) → DayPut t (o .states) (o .concentrations) (o .flows) states' conc' flow' w
+    stands : (y : OutfallLine) (flags' states' conc' flow' : List ℕ) (w : Weighed) (r : Taken) → PutAt t found (o .states) (o .concentrations) (o .flows) states' conc' flow' w
         → r .sums ≡ withSurvey s w → length flags' ≡ length (o .flags) → (w .found ≡ found → r .view ≡ viewOf (InWater y done))
         → WaterBooks y (withSurvey s (standing c l found)) (inOpen (o .runs) (o .measured) (set (o .states) (t .hour) 2) flags' (set (o .concentrations) (t .hour) c) (set (o .flows) (t .hour) l))
         → Kept (InWater y done) (r .view) (r .sums) (inOpen (o .runs) (o .measured) states' flags' conc' flow') d
@@ -138,7 +148,7 @@ module _ (x : OutfallLine) (done : List Line) (v : View) (s : Sums) (t : Survey)
         → Kept (InWater (withDayEnforcement x t) done) (r .view) (r .sums) (inOpen (o .runs) (o .measured) states' flags' conc' flow') d
     kept-day-enforcement states' flags' conc' flow' r none e =
         subst (λ (fs : List ℕ). Kept (InWater (withDayEnforcement x t) done) (r .view) (r .sums) (inOpen (o .runs) (o .measured) states' fs conc' flow') d) (sym (e .flagsNow))
-        (stands (withDayEnforcement x t) (set (o .flags) (t .hour) 1) states' conc' flow' (e .weighed) r (e .put) (e .sums) (length-set (o .flags) (t .hour) 1)
+        (stands (withDayEnforcement x t) (set (o .flags) (t .hour) 1) states' conc' flow' (e .weighed) r (put-in false _ _ _ _ refl (e .put)) (e .sums) (length-set (o .flags) (t .hour) 1)
         (λ q.
         e .view ∙ ap₂ (λ (w : View) (n : ℕ). afterEnforcement w (t .hour) n) (k .view) q
         ∙ view-day-enforcement x done t found (day-enforcement-missing x t (k .books) (k .long) all-days day none))
@@ -161,12 +171,7 @@ module _ (x : OutfallLine) (done : List Line) (v : View) (s : Sums) (t : Survey)
           (books-as (withDayPlant x t) (day-beaten-books x t h (k .books) all-days room) (e .sums ∙ ap (withSurvey s) ew ∙ adds-nothing s) (open-is _ _ _ _ _ _ _ _ _ _ _ _ refl refl es refl ec el))
       plant-by false h q =
           stands (withDayPlant x t) (o .flags) states' conc' flow' (e .weighed) r
-          (record {
-            weighs = e .put .weighs ∙ sym (pick-false _ _ _ _ q refl);
-            statesNow = e .put .statesNow ∙ sym (pick-false _ _ _ _ q refl);
-            concNow = e .put .concNow ∙ sym (pick-false _ _ _ _ q refl);
-            flowNow = e .put .flowNow ∙ sym (pick-false _ _ _ _ q refl);
-          })
+          (put-in _ _ _ _ _ q (e .put))
           (e .sums) refl
           (λ z. e .view ∙ ap₂ (λ (w : View) (n : ℕ). afterPlant w (t .hour) n) (k .view) z ∙ view-day-plant x done t found (day-plant-missing x t (k .books) (k .long) all-days day h))
           (day-plant-books x t (k .books) (k .long) all-days day room ok h)
@@ -175,7 +180,7 @@ module _ (x : OutfallLine) (done : List Line) (v : View) (s : Sums) (t : Survey)
       unfolding flagAt
       kept-day-plant =
           plant-by (hasSurvey (t .hour) (x .enforcement)) refl
-          (sym (beats-within (o .flags) (t .hour) (omega (arith, k .books .period))) ∙ ap (λ (n : ℕ). eqb n 1) flag-is ∙ flag-bit (hasSurvey (t .hour) (x .enforcement)))
+          (ap (λ (n : ℕ). eqb n 1) flag-is ∙ flag-bit (hasSurvey (t .hour) (x .enforcement)))
 
 -- ---- an end
 module _ (x : OutfallLine) (done : List Line) (v : View) (s : Sums) (o : Open) (d : Done) (k : Kept (InWater x done) v s o d) (all-days : length (x .days) ≡ x .head .days)

@@ -6,7 +6,7 @@ use Prim.Native.Nat.{ℕ, _+_, _*_, _<_, _≤_, min}
 use native.Mathlib.Omega.{arith}
 use lib.ListN.{length, drop, length-replicate}
 use lib.Dec.{leb}
-use borrow.Author.Tests.{le-leb, lt-leb, leb-true, leb-false, not-true, not-false}
+use borrow.Author.Tests.{le-leb, lt-leb}
 use Rattle.law.specs.Numbers.{mostHours, rowCells, mostCells}
 use Rattle.law.specs.Words.{need, over}
 use Rattle.rules.specs.declared.Answer.{Answer}
@@ -32,13 +32,6 @@ short-conc c f a = rw (lt-leb mostHours c a)
 pub short-flow : (c f : ℕ) → mostHours ≤ c → f < mostHours → workFits c f ≡ false
 unfolding workFits
 short-flow c f a b = rw (le-leb mostHours c a, lt-leb mostHours f b)
-
--- a slice is held or not, as the test says
-pub not-held : (c : ℕ) (t : Bool) → t ≡ leb mostHours c → not t ≡ true → c < mostHours
-not-held c t e n = leb-false mostHours c (sym e ∙ not-true t n)
-
-pub held : (c : ℕ) (t : Bool) → t ≡ leb mostHours c → not t ≡ false → mostHours ≤ c
-held c t e n = leb-true mostHours c (sym e ∙ not-false t n)
 
 module _ (file conc flow : List ℕ) where
   pub promise-9 : (r : Walked) → workFits (length conc) (length flow) ≡ false → r ≡ stopped (refuse 9 0) → Promise file noRows conc flow (r .answer) (r .rows) conc flow

@@ -34,10 +34,9 @@ use Rattle.walk.specs.declared.take.Taken.{Taken}
 use Rattle.walk.specs.Views.{afterHead, afterDay, afterEnforcement, afterPlant, afterBatch, withSurvey}
 use Rattle.walk.specs.Books.{putFrom, inCell, flagAt, Open, inOpen, Done, Long, LineBooks, Kept}
 use Rattle.walk.proofs.Cleared.{cleared-all}
-use Rattle.walk.specs.Taking.{HeadTaken, DayTaken, EnforcementTaken, PlantTaken, BatchTaken}
+use Rattle.walk.specs.Taking.{HeadTaken, DayTaken, EnforcementTaken, PlantTaken, BatchTaken, beats}
 use Rattle.line.specs.declared.surveyed.Weighed.{Weighed}
-use Rattle.line.specs.Put.{Tables, inTables, surveyC, surveyL, standing, nothing, measuredAt, beats}
-use Rattle.line.proofs.Surveys.{beats-within}
+use Rattle.line.specs.Put.{Tables, inTables, surveyC, surveyL, standing, nothing, measuredAt}
 use Rattle.walk.proofs.Views.{view-head, view-day, view-enforcement, view-plant, view-batch}
 use Rattle.walk.proofs.Steps.{begun-books, day-books, enforcement-books, enforcement-lacking, plant-books, plant-lacking, days-beaten, beaten-books, batch-books}
 
@@ -219,7 +218,7 @@ module _ (x : StackLine) (done : List Line) (v : View) (s : Sums) (t : Survey) (
         → Kept (Inside (withEnforcement x t) done) (r .view) (r .sums) (after flags' o') d
     kept-enforcement flags' o' r none e =
         subst (λ (fs : List ℕ). Kept (Inside (withEnforcement x t) done) (r .view) (r .sums) (after fs o') d) (sym (e .flagsNow))
-        (stands (withEnforcement x t) (set (o .flags) (t .hour) 1) o' (e .weighed) r (e .put .tables) (e .put .weighs) (e .sums) (length-set (o .flags) (t .hour) 1)
+        (stands (withEnforcement x t) (set (o .flags) (t .hour) 1) o' (e .weighed) r (e .put .tables ∙ sym (pick-false _ _ _ _ refl refl)) (e .put .weighs ∙ sym (pick-false _ _ _ _ refl refl)) (e .sums) (length-set (o .flags) (t .hour) 1)
         (λ q.
         e .view ∙ ap₂ (λ (w : View) (n : ℕ). afterEnforcement w (t .hour) n) (k .view) q
         ∙ view-enforcement x done t found (enforcement-lacking x t (k .books) (k .long) all-days hour room (most-c t ok) (most-l t ok) found none))
@@ -250,7 +249,7 @@ module _ (x : StackLine) (done : List Line) (v : View) (s : Sums) (t : Survey) (
       unfolding flagAt
       kept-plant =
           plant-by (hasSurvey (t .hour) (x .enforcement)) refl
-          (sym (beats-within (o .flags) (t .hour) (omega (arith, k .books .period))) ∙ ap (λ (n : ℕ). eqb n 1) flag-is ∙ flag-bit (hasSurvey (t .hour) (x .enforcement)))
+          (ap (λ (n : ℕ). eqb n 1) flag-is ∙ flag-bit (hasSurvey (t .hour) (x .enforcement)))
 
 -- ---- a batch
 pub kept-batch : (x : StackLine) (done : List Line) (v : View) (s : Sums) (b : Batch) (o : Open) (d : Done) (r : Taken)

@@ -4,6 +4,7 @@ use mathlib.Core.Bool.{Bool, true, false}
 use mathlib.Core.List.{List}
 use mathlib.Core.Path.{_≡_}
 use lib.ListN.{length, take, getD, set}
+use lib.Dec.{eqb}
 use Rattle.law.specs.Numbers.{hoursOfDay, mostDays, mostHours, mostLines, rowCells, totalCells, mostSurveys, mostAmount, mostGrams}
 use Rattle.law.specs.Words.{over}
 use Rattle.rules.specs.declared.Head.{Head}
@@ -17,9 +18,9 @@ use Rattle.rules.specs.Hours.{firstMissing}
 use Rattle.reading.specs.Reading.{reading, concentrationOf, flowOf, flaggedOf}
 use Rattle.rules.specs.Records.{dayOf}
 use Rattle.hours.specs.States.{periodStates}
-use Rattle.line.specs.Days.{firstLacking, DayPut, DayPlantPut}
+use Rattle.line.specs.Days.{firstLacking, DayPut}
 use Rattle.line.specs.declared.surveyed.Weighed.{Weighed}
-use Rattle.line.specs.Put.{Tables, beats, SurveyPut, PlantPut}
+use Rattle.line.specs.Put.{Tables, SurveyPut}
 use Rattle.line.specs.Line.{rowIn}
 use Rattle.rules.specs.Judge.{fine, judgeHours, lineMethod, dailyMethod}
 use Rattle.day.specs.Day.{concentrationAt, flowAt, hourState}
@@ -72,16 +73,20 @@ pub record DayTaken (bytes : List ℕ) (v : View) (s : Sums) (m : Masks) (runs m
 -- an enforcement survey
 pub record EnforcementTaken (v : View) (s : Sums) (t : Survey) (runs flags : List ℕ) (o : Tables) (flags' : List ℕ) (o' : Tables) (r : Taken) : Type 0 where
   pub weighed : Weighed
-  pub put : SurveyPut t runs o o' weighed
+  pub put : SurveyPut t false runs o o' weighed
   pub faults : r .fault ≡ fine
   pub view : r .view ≡ afterEnforcement v (t .hour) (weighed .found)
   pub sums : r .sums ≡ withSurvey s weighed
   pub flagsNow : flags' ≡ set flags (t .hour) 1
 
+-- whether an hour has an enforcement survey, by the flags of a quarter's hours
+abbrev pub beats : List ℕ → ℕ → Bool
+beats flags h = eqb (getD flags h 0) 1
+
 -- a plant survey, where an enforcement survey stands and where none does
 pub record PlantTaken (v : View) (s : Sums) (t : Survey) (runs flags : List ℕ) (o o' : Tables) (r : Taken) : Type 0 where
   pub weighed : Weighed
-  pub put : PlantPut t (beats flags (t .hour)) runs o o' weighed
+  pub put : SurveyPut t (beats flags (t .hour)) runs o o' weighed
   pub faults : r .fault ≡ fine
   pub view : r .view ≡ afterPlant v (t .hour) (weighed .found)
   pub sums : r .sums ≡ withSurvey s weighed
@@ -160,7 +165,7 @@ pub record WaterDayTaken (v : View) (s : Sums) (d : WaterDay) (runs states conc 
 -- an enforcement survey of a day
 pub record DayEnforcementTaken (v : View) (s : Sums) (t : Survey) (states flags conc flow states' flags' conc' flow' : List ℕ) (r : Taken) : Type 0 where
   pub weighed : Weighed
-  pub put : DayPut t states conc flow states' conc' flow' weighed
+  pub put : DayPut t false states conc flow states' conc' flow' weighed
   pub faults : r .fault ≡ fine
   pub view : r .view ≡ afterEnforcement v (t .hour) (weighed .found)
   pub sums : r .sums ≡ withSurvey s weighed
@@ -169,7 +174,7 @@ pub record DayEnforcementTaken (v : View) (s : Sums) (t : Survey) (states flags 
 -- a plant survey of a day
 pub record DayPlantTaken (v : View) (s : Sums) (t : Survey) (states flags conc flow states' conc' flow' : List ℕ) (r : Taken) : Type 0 where
   pub weighed : Weighed
-  pub put : DayPlantPut t (beats flags (t .hour)) states conc flow states' conc' flow' weighed
+  pub put : DayPut t (beats flags (t .hour)) states conc flow states' conc' flow' weighed
   pub faults : r .fault ≡ fine
   pub view : r .view ≡ afterPlant v (t .hour) (weighed .found)
   pub sums : r .sums ≡ withSurvey s weighed

@@ -21,6 +21,13 @@ fn grams_in(f: FuelFigure) -> u64
     }
 }
 
+// c x l of an hour or a day.
+fn product(c: u32, l: u32) -> u64
+    ensures { λ r. ⌜ r ≡ c * l ⌝ }
+{
+    (c as u64) * (l as u64)
+}
+
 // The sum of c x l. It is known to fit, so that no turn tests it.
 fn weigh(conc: &[u32], flow: &[u32]) -> u64
     requires { ⌜ (length (now flow) ≡ length (now conc)) × (products (now conc) (now flow) < 2 ^ 64) ⌝ }
@@ -29,7 +36,7 @@ fn weigh(conc: &[u32], flow: &[u32]) -> u64
     let mut sum: u64 = 0;
     let mut i: usize = 0;
     while i < conc.len() {
-        sum += line::product(conc[i], flow[i]);
+        sum += product(conc[i], flow[i]);
         i += 1;
     }
     sum

@@ -65,8 +65,8 @@ fn stop(f: Fault, conc: &mut [u32], flow: &mut [u32]) -> Walked
     requires { ⌜ (length (now conc) ≡ mostHours) × (length (now flow) ≡ mostHours) ⌝ }
     ensures { λ r. ⌜ (r ≡ stopped f) × (now (conc .exit) ≡ cells []) × (now (flow .exit) ≡ cells []) ⌝ }
 {
-    cells::clear_quarter(conc);
-    cells::clear_quarter(flow);
+    cells::clear_first(conc, 2208);
+    cells::clear_first(flow, 2208);
     refused(f)
 }
 
@@ -75,8 +75,8 @@ fn settle(file: &[u8], conc: &mut [u32], flow: &mut [u32]) -> Walked
     requires { ⌜ (length (now conc) ≡ mostHours) × (length (now flow) ≡ mostHours) ⌝ }
     ensures { λ r. ⌜ Settled (now (file .entry)) (r .answer) (r .rows) (now (conc .exit)) (now (flow .exit)) ⌝ }
 {
-    cells::clear_quarter(conc);
-    cells::clear_quarter(flow);
+    cells::clear_first(conc, 2208);
+    cells::clear_first(flow, 2208);
     let mut rows = [0u64; 336];
     let mut totals = [0u64; 5];
     let w = walk_records(file, &mut rows, &mut totals, conc, flow);
@@ -91,10 +91,10 @@ fn settle(file: &[u8], conc: &mut [u32], flow: &mut [u32]) -> Walked
 pub fn walk_file(file: &[u8], concentrations: &mut [u32], flows: &mut [u32]) -> Walked
     ensures { λ r. ⌜ Promise (now (file .entry)) noRows (now (concentrations .entry)) (now (flows .entry)) (r .answer) (r .rows) (now (concentrations .exit)) (now (flows .exit)) ⌝ }
 {
-    if !cells::holds_quarter(concentrations) {
+    if concentrations.len() < 2208 {
         return refused(TOO_SHORT);
     }
-    if !cells::holds_quarter(flows) {
+    if flows.len() < 2208 {
         return refused(TOO_SHORT);
     }
     settle(file, &mut concentrations[0..2208], &mut flows[0..2208])

@@ -14,7 +14,7 @@ returns c =
     let second = c .before .before in
     let first = second .before .before .before .before in
     let start = first .before .before .before .before in
-    (refl, cleared (now (start .args .concentrations)) _ (start .pre .0) (first .clear-quarter .ensures), cleared (now (start .args .flows)) _ (start .pre .1) (second .clear-quarter2 .ensures))
+    (refl, cleared (now (start .args .concentrations)) _ (start .pre .0) (first .clear-first .ensures), cleared (now (start .args .flows)) _ (start .pre .1) (second .clear-first2 .ensures))
 
 pub too-few-rows-spec : {M : Type 1} → statement M
 too-few-rows-spec =

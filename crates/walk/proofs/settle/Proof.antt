@@ -15,7 +15,7 @@ walk-records-requires c κs =
     let conc = flow .before .before .before .before in
     let start = conc .before .before .before .before .before in
     let p = start .pre in
-    (refl, refl, cleared (now (start .args .conc)) _ (p .0) (conc .clear-quarter .ensures), cleared (now (start .args .flow)) _ (p .1) (flow .clear-quarter2 .ensures))
+    (refl, refl, cleared (now (start .args .conc)) _ (p .0) (conc .clear-first .ensures), cleared (now (start .args .flow)) _ (p .1) (flow .clear-first2 .ensures))
 
 -- a cleared slice is as long as the one that was lent
 same-length : tie.Need-same-length

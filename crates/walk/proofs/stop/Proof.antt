@@ -10,7 +10,7 @@ returns c =
     let second = c .before .before .before in
     let first = second .before .before .before .before in
     let start = first .before .before .before .before in
-    (c .refused .ensures, cleared (now (start .args .conc)) _ (start .pre .0) (first .clear-quarter .ensures), cleared (now (start .args .flow)) _ (start .pre .1) (second .clear-quarter2 .ensures))
+    (c .refused .ensures, cleared (now (start .args .conc)) _ (start .pre .0) (first .clear-first .ensures), cleared (now (start .args .flow)) _ (start .pre .1) (second .clear-first2 .ensures))
 
 pub stop-spec : {M : Type 1} → statement M
 stop-spec =

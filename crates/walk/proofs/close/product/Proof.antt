@@ -1,8 +1,8 @@
--- `line::product` meets its contract. Assumes nothing.
+-- `walk::close::product` meets its contract. Assumes nothing.
 use Rattle.line.proofs.Products.{product-fits}
 use borrow.Author.Needs.{needs}
-use Rattle.line.proofs.product.Statement.{statement}
-use Rattle.line.proofs.product.Tie as tie
+use Rattle.walk.proofs.close.product.Statement.{statement}
+use Rattle.walk.proofs.close.product.Tie as tie
 
 mul-result : tie.Need-mul-result
 mul-result c = record { fits = product-fits (search needs) (search needs) }
