@@ -365,6 +365,7 @@ module _ (bytes : List ℕ) (v : View) (s : Sums) (o : Open) (d : Done) where
       rw (ap (λ (u : View). u .head) e, ap (λ (u : View). u .fuel) e, y .fuel .largest, y .fuel .summed) refl in
       let p : v .head .pollutant ≡ x .head .pollutant = ap (λ (u : View). u .head .pollutant) e in
       record {
+        ofStack = ap (λ (u : View). u .water) e;
         days = omega (arith, ap (λ (u : View). u .head .days) e, y .period);
         said = subst (λ (n : ℕ). take (hoursOfDay * n) (o .states) ≡ periodStates (o .runs) (o .measured) n) (days-all x done e (ok .days-done) ∙ sym (ap (λ (u : View). u .head .days) e)) (y .masks .statesKept);
         concLong = z .long .concentrations;
@@ -389,6 +390,7 @@ module _ (bytes : List ℕ) (v : View) (s : Sums) (o : Open) (d : Done) where
       let w = day-weights x done z in
       let p : v .head .pollutant ≡ x .head .pollutant = ap (λ (u : View). u .head .pollutant) e in
       record {
+        ofOutfall = t;
         days = omega (arith, ap (λ (u : View). u .head .days) e, y .period);
         concLong = z .long .concentrations;
         flowLong = z .long .flows;

@@ -114,6 +114,7 @@ pub record LineStated (v : View) (s : Sums) (method grams first : ℕ) (d d' : D
 
 -- what closing a line asks: the states are those that the masks say
 pub record EndReady (v : View) (s : Sums) (runs measured states conc flow soFar : List ℕ) : Type 0 where
+  pub ofStack : v .water ≡ false
   pub days : v .head .days ≤ mostDays
   pub said : take (hoursOfDay * v .head .days) states ≡ periodStates runs measured (v .head .days)
   pub concLong : length conc ≡ mostHours
@@ -181,6 +182,7 @@ pub record DayPlantTaken (v : View) (s : Sums) (t : Survey) (states flags conc f
 
 -- what closing a line of an outfall asks
 pub record WaterEndReady (v : View) (s : Sums) (conc flow soFar : List ℕ) : Type 0 where
+  pub ofOutfall : v .water ≡ true
   pub days : v .head .days ≤ mostDays
   pub concLong : length conc ≡ mostHours
   pub flowLong : length flow ≡ mostHours
