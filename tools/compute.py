@@ -28,7 +28,7 @@ use mathlib.Core.Path.{_≡_, refl}
 use lib.ListN.{replicate}
 use Rattle.printed.specs.Program.{printed}
 use Rattle.printed.specs.Opened.{prints}
-use Rattle.nearest.specs.Computed.{nearestBy}
+use Rattle.import.specs.Computed.{nearestBy}
 use Rattle.import.specs.Import.{answerOf, bufferAfter}
 use Rattle.import.specs.Opened.{texts}
 use Rattle.filed.specs.Said.{said}
@@ -86,8 +86,7 @@ def definitions(lines):
         lines.append('%s: %s' % (c, ' '.join(deps[c])))
     base.append(definition('text', ['Numbers', 'Line', 'Opened'], 'law rules', lines))
     base.append(definition('printed', ['Program', 'Opened'], 'law rules text', lines))
-    base.append(definition('nearest', ['Nearest', 'Computed', 'Opened'], 'law reading', lines))
-    base.append(definition('import', ['Line', 'Import', 'Opened'], 'law field reading nearest', lines))
+    base.append(definition('import', ['Line', 'Nearest', 'Computed', 'Import', 'Opened'], 'law field reading', lines))
     base.append(definition('filing', ['Filing', 'Opened'], 'law', lines))
     base.append(definition('filed', ['Filed', 'Said', 'Opened'], 'law rules text filing', lines))
     return base

@@ -9,7 +9,7 @@ use Rattle.law.specs.Words.{pick, table}
 use Rattle.law.specs.Written.{Wrote}
 use Rattle.rules.specs.Row.{concentrationCells, flowCells}
 use Rattle.rules.specs.Account.{answerOf, rowsAfter, workAfter}
-use Rattle.nearest.specs.Nearest.{ToNearest}
+use Rattle.import.specs.Nearest.{ToNearest}
 use Rattle.import.specs.Import.{answerOf as importOf, bufferAfter}
 use Rattle.filed.specs.Filed.{checked}
 use Rattle.filed.specs.Said.{said}

@@ -24,8 +24,8 @@ use Rattle.rules.specs.declared.Record.the-variants.{OfDay}
 use Rattle.rules.specs.Records.{Day, pairOf, masksOf, dayOf, bodyOf, sizeIn, recordIn}
 use Rattle.rules.specs.Hours.{bit, pairAt, slotOf}
 use Rattle.rules.specs.Slots.{valid, missing, stopped}
-use Rattle.nearest.specs.Nearest.{ToNearest}
-use Rattle.nearest.proofs.Back.{hundredths-back, whole-back}
+use Rattle.import.specs.Nearest.{ToNearest}
+use Rattle.import.proofs.Back.{hundredths-back, whole-back}
 use Rattle.import.specs.Line.{concentrationOf, flowOf}
 use Rattle.import.specs.Import.{lineFrom, runBit, measuredBit, maskOf, concentrationCell, flowCell, patternOf, patternsOf, dayRecord}
 use Rattle.import.proofs.Texts.{Sound, SoundDay, concentration-near, flow-near}

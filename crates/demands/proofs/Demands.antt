@@ -45,7 +45,7 @@ use Rattle.quarter.proofs.account.Met.{met as account-met}
 use Rattle.panel.proofs.Panel.hour.Met.{met as hour-met}
 use Rattle.survey.proofs.governing_survey.Met.{met as governing-met}
 use Rattle.import.proofs.import_days.Met.{met as import-met}
-use Rattle.nearest.proofs.Back.{back}
+use Rattle.import.proofs.Back.{back}
 use Rattle.import.proofs.Grammar.{formed-is}
 use Rattle.demands.specs.Demands.{Call, Result, Lent, Kept, Version, Keeps, Taken, NoneOfFour, EveryRowNear, RefusesAll, PanelExact, Governs, Demands, Code}
 use Rattle.filed.proofs.check_filed.Met.{met as check-met}

@@ -13,9 +13,9 @@ use Rattle.rules.specs.Records.{Day, masksOf, dayOf, recordIn}
 use Rattle.rules.specs.declared.Record.the-variants.{OfDay}
 use Rattle.rules.specs.Hours.{slotOf}
 use Rattle.rules.specs.Walk.{outcome}
-use Rattle.nearest.specs.Nearest.{ToNearest}
-use Rattle.nearest.specs.Computed.{nearestBy}
-use Rattle.nearest.proofs.Computed.{computed}
+use Rattle.import.specs.Nearest.{ToNearest}
+use Rattle.import.specs.Computed.{nearestBy}
+use Rattle.import.proofs.Computed.{computed}
 use Rattle.import.specs.Import.{dayBytes, judged, daysOf, answerOf, lineFrom, recordsOf, bufferAfter}
 use Rattle.import.proofs.Texts.{SoundDay, day-sound, line-in}
 use Rattle.import.proofs.Only.{import-only}

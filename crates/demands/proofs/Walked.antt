@@ -35,8 +35,8 @@ use Rattle.rules.specs.Walk.{Stand, Between, Inside, viewOf, runsOf, begun, wit
 use Rattle.rules.proofs.Records.{record-case}
 use Rattle.rules.proofs.Faults.{first-fine, at-place-number, at-place-refused}
 use Rattle.rules.proofs.Fields.{faultFrom, fault-from, fault-end}
-use Rattle.nearest.specs.Nearest.{ToNearest}
-use Rattle.nearest.proofs.Back.{concentration-accepted, flow-accepted}
+use Rattle.import.specs.Nearest.{ToNearest}
+use Rattle.import.proofs.Back.{concentration-accepted, flow-accepted}
 use Rattle.import.specs.Line.{stateOf, concentrationOf, flowOf}
 use Rattle.import.specs.Import.{dayBytes, judged, daysOf, lineFrom, runBit, measuredBit, maskOf, concentrationCell, flowCell, dayRecord, recordsOf}
 use Rattle.import.proofs.Texts.{SoundDay, concentration-near, flow-near, day-sound}

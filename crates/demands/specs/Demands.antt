@@ -14,7 +14,7 @@ use Rattle.quarter.proofs.account.Statement.{statement as accountMeets}
 use Rattle.panel.proofs.Panel.hour.Statement.{statement as hourMeets}
 use Rattle.survey.proofs.governing_survey.Statement.{statement as governingMeets}
 use Rattle.import.proofs.import_days.Statement.{statement as importMeets}
-use Rattle.nearest.specs.Nearest.{Nearest}
+use Rattle.import.specs.Nearest.{Nearest}
 use Rattle.import.specs.Grammar.{FormedAs}
 use Rattle.filed.proofs.check_filed.Statement.{statement as checkMeets}
 use Rattle.filed.proofs.filed_text.Statement.{statement as filedTextMeets}

@@ -9,7 +9,7 @@ use Rattle.reading.specs.Reading.{reading, concentration, flow}
 use Rattle.rules.specs.{declared.Head.Head, declared.Pair.Pair, Records.Day, Records.dayOf, Records.masksOf, Records.recordIn, Hours.slotOf, Slots.Slot, Slots.valid, Slots.missing, Slots.stopped}
 use Rattle.rules.specs.declared.Record.the-variants.{OfHead, OfDay}
 use Rattle.rules.specs.{Judge.judge, Judge.refuse, Lines.StackLine, Outfalls.OfStack, Walk.Between, Walk.viewOf, Walk.Accepted, Walk.Refused, Walk.outcome}
-use Rattle.nearest.specs.Nearest.{Nearest}
+use Rattle.import.specs.Nearest.{Nearest}
 use Rattle.import.specs.declared.Imported.{Imported}
 use Rattle.import.specs.Line.{stateOf, concentrationOf, flowOf}
 use Rattle.import.specs.Import.{dayBytes, lineFrom, daysOf, Promise}

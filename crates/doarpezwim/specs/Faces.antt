@@ -15,7 +15,7 @@ use Rattle.rules.specs.Account.{answerOf, rowsAfter, workAfter}
 use Rattle.panel.specs.declared.Panel.{Panel}
 use Rattle.panel.specs.declared.Stepped.{Stepped}
 use Rattle.panel.specs.Panel.{unchanged, panelStep}
-use Rattle.nearest.specs.Nearest.{ToNearest}
+use Rattle.import.specs.Nearest.{ToNearest}
 use Rattle.import.specs.declared.Imported.{Imported}
 use Rattle.import.specs.Import.{answerOf as importOf, bufferAfter}
 use Rattle.rules.specs.OnPaper.{OnPaper}
