@@ -33,7 +33,7 @@ use Rattle.answers.proofs.Only.{promise-only}
 use Rattle.panel.proofs.Runs.{run-exact, run-fits, run-good, run-value, run-accepts}
 use Rattle.survey.specs.Governing.{isSurvey, part, surveyOr, governing}
 use Rattle.survey.proofs.Only.{governing-survey}
-use Rattle.figures.specs.Example.{example}
+use Rattle.demands.specs.Example.{example}
 use Rattle.law.specs.Numbers.{mostHours, rowCells}
 use Rattle.rules.specs.Measured.{Measured}
 use Rattle.rules.specs.Grams.{automatic, manual}

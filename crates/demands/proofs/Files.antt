@@ -13,7 +13,7 @@ use Rattle.rules.specs.declared.Answer.{Answer}
 use Rattle.rules.specs.Row.{concentrationCells, flowCells}
 use Rattle.rules.specs.Account.{answerOf, rowsAfter, workAfter}
 use Rattle.rules.specs.Opened.{rules}
-use Rattle.figures.specs.Example.{example}
+use Rattle.demands.specs.Example.{example}
 use Rattle.demands.specs.Demands.{Call, Slice, Lent}
 
 -- ---- the files

@@ -1,4 +1,4 @@
--- A proof of each demand.
+-- A proof of each demand; the worked figures and the example, computed.
 pub mod Falsity
 pub mod Files
 pub mod Rows
@@ -9,3 +9,4 @@ pub mod Filings
 pub mod Printed
 pub mod Demands
 pub mod Refuted
+pub mod Computed

@@ -15,7 +15,7 @@ use Rattle.answers.specs.Heads.{headsWith, headsIn, headsOf}
 use Rattle.allowance.specs.Exact.{exactFill, exactAutomatic}
 use Rattle.allowance.specs.Allowance.{inAir, automaticAllowance}
 use Rattle.allowance.specs.Opened.{allowances}
-use Rattle.figures.specs.Example.{example}
+use Rattle.demands.specs.Example.{example}
 use Rattle.filed.specs.declared.Verdict.the-variants.{Agrees, Wrong}
 use Rattle.filed.specs.Opened.{checks}
 use Rattle.filed.proofs.Only.{check-only}

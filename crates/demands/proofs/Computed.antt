@@ -2,8 +2,8 @@
 use mathlib.Core.Path.{refl}
 use Rattle.rules.specs.Opened.{rules}
 use Rattle.printed.specs.Opened.{prints}
-use Rattle.figures.specs.Figures.{figure, concentrationRow, flowRow, quarterRow, boiler, pair, survey, dayLine, methodRow, waterDay, outfallRow, batch, fuelRow, figures, FiguresAgree}
-use Rattle.figures.specs.Example.{example, exampleText, ExampleAgrees}
+use Rattle.demands.specs.Figures.{figure, concentrationRow, flowRow, quarterRow, boiler, pair, survey, dayLine, methodRow, waterDay, outfallRow, batch, fuelRow, figures, FiguresAgree}
+use Rattle.demands.specs.Example.{example, exampleText, ExampleAgrees}
 
 pub figures-agree : FiguresAgree
 unfolding rules figure concentrationRow flowRow quarterRow boiler pair survey dayLine methodRow waterDay outfallRow batch fuelRow figures

@@ -1,2 +1,0 @@
--- The worked figures and the example, computed.
-pub mod Computed
