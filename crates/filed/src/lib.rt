@@ -8,6 +8,7 @@ use crate::against::own_refusal;
 use crate::texts::check_text;
 use crate::texts::verdict_text;
 use rules::Fault;
+use text::Said;
 ghost use mathlib.Core.Path.{_≡_};
 ghost use Prim.Native.Nat.{_≤_};
 ghost use lib.ListN.{length};
@@ -41,10 +42,10 @@ pub fn filed_text(file: &[u8], text: &[u8], line: &mut [u8]) -> usize
     ensures { λ r. ⌜ r ≤ length (now (line .exit)) ⌝ }
 {
     if file.len() > 65536 {
-        return text::refused_text(line, 13, 0);
+        return text::said_text(line, Said::Refused(13, 0));
     }
     if text.len() > 65536 {
-        return text::refused_text(line, 13, 0);
+        return text::said_text(line, Said::Refused(13, 0));
     }
     verdict_text(check_text(file, text), line)
 }

@@ -4,6 +4,7 @@ use crate::against::WRONG_COUNT;
 use crate::against::against_account;
 use crate::against::own_refusal;
 use rules::Fault;
+use text::Said;
 ghost use mathlib.Core.Path.{_≡_};
 ghost use Rattle.filed.specs.Filed.{verdictOnPaper};
 ghost use Rattle.filed.specs.Said.{checkedText, lineOf};
@@ -39,9 +40,10 @@ pub fn check_text(file: &[u8], text: &[u8]) -> Verdict
 pub fn verdict_text(v: Verdict, line: &mut [u8]) -> usize
     ensures { λ r. ⌜ Text (lineOf (verdictOnPaper v)) (now (line .entry)) (now (line .exit)) r ⌝ }
 {
-    match v {
-        Verdict::Agrees => text::yes_text(line),
-        Verdict::Wrong(row, field) => text::wrong_text(line, row as u64, field as u64),
-        Verdict::Refused(f) => text::refused_text(line, f.number as u64, f.place as u64),
-    }
+    let s = match v {
+        Verdict::Agrees => Said::Yes,
+        Verdict::Wrong(row, field) => Said::Wrong(row as u64, field as u64),
+        Verdict::Refused(f) => Said::Refused(f.number as u64, f.place as u64),
+    };
+    text::said_text(line, s)
 }

@@ -11,7 +11,7 @@ fn refuse_arguments() {
 // What refuses the text, and at which line: on standard error, so that standard output has records or nothing.
 fn refuse(number: u32, line: u32) {
     let mut said = [0u8; 8192];
-    let n = text::refused_text(&mut said, number as u64, line as u64);
+    let n = text::said_text(&mut said, text::Said::Refused(number as u64, line as u64));
     io::write_all(libc::STDERR_FILENO, &said[0..n]);
 }
 

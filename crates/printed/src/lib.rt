@@ -1,4 +1,5 @@
 // What the program prints: the text of a file's answer, written into a lent buffer.
+use text::Said;
 ghost use Prim.Native.Nat.{_≤_};
 ghost use lib.ListN.{length};
 ghost use Rattle.rules.specs.Walk.{outcome};
@@ -15,7 +16,7 @@ pub fn answer_text(file: &[u8], text: &mut [u8]) -> usize
     let mut flows = [0u32; 2208];
     let a = quarter::account(file, &mut rows, &mut concentrations, &mut flows);
     if a.number != 0 {
-        return text::refused_text(text, a.number as u64, a.place as u64);
+        return text::said_text(text, Said::Refused(a.number as u64, a.place as u64));
     }
     let totals = a.totals;
     text::stated_text(text, &rows, a.rows, &totals)
@@ -27,7 +28,7 @@ pub fn program_text(input: &[u8], text: &mut [u8]) -> usize
     ensures { λ r. ⌜ r ≤ length (now (text .exit)) ⌝ }
 {
     if input.len() > 65536 {
-        return text::refused_text(text, 13, 0);
+        return text::said_text(text, Said::Refused(13, 0));
     }
     answer_text(input, text)
 }

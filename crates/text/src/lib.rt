@@ -1,11 +1,10 @@
 // The texts that the programs print, written into a lent buffer: a refusal, rows and totals, what is said of a filing.
-ghost use Prim.Native.Nat.{_*_, _≤_};
+ghost use Prim.Native.Nat.{_+_, _*_, _≤_};
 ghost use mathlib.Core.List.{[], _∷_, _++_};
 ghost use lib.ListN.{length};
 ghost use Rattle.law.specs.Numbers.{rowCells};
-ghost use Rattle.rules.specs.Judge.{refuse};
 ghost use Rattle.law.specs.Written.{Wrote};
-ghost use Rattle.text.specs.Line.{refusedLine, wrongLine, yesLine};
+ghost use Rattle.text.specs.Line.{saidLine};
 ghost use Rattle.text.specs.Numbers.{spaced};
 ghost use Rattle.text.specs.Text.{Text, rowsText, statedLines};
 use crate::writing::put_bytes;
@@ -16,41 +15,35 @@ mod writing;
 // No text is longer: 48 rows of seven numbers, and a line of five.
 const LONGEST: usize = 8192;
 
-// A word, two numbers and a line feed.
-fn word_text(text: &mut [u8], word: &[u8], first: u64, second: u64) -> usize
-    requires { ⌜ length (now word) ≤ 8 ⌝ }
-    ensures { λ r. ⌜ Text (now (word .entry) ++ spaced (first ∷ second ∷ [])) (now (text .entry)) (now (text .exit)) r ⌝ }
+// A line that is said of a file or of a filing.
+pub enum Said {
+    Refused(u64, u64),
+    Wrong(u64, u64),
+    Yes,
+}
+
+// A word, two numbers and a line feed, at the start; a number is at most 20 bytes long.
+fn put_word(text: &mut [u8], word: &[u8], first: u64, second: u64) -> usize
+    requires { ⌜ length (now word) + 42 ≤ length (now text) ⌝ }
+    ensures { λ r. ⌜ Wrote (now (text .entry)) 0 (now (word .entry) ++ spaced (first ∷ second ∷ [])) (now (text .exit)) r ⌝ }
 {
-    if text.len() < LONGEST {
-        return 0;
-    }
     let at = put_bytes(text, 0, word);
     let cells = [first, second];
     put_spaced(text, at, &cells)
 }
 
-// "refused N OFFSET"; 0 where the buffer could be too short.
-pub fn refused_text(text: &mut [u8], number: u64, place: u64) -> usize
-    ensures { λ r. ⌜ Text (refusedLine (refuse number place)) (now (text .entry)) (now (text .exit)) r ⌝ }
-{
-    word_text(text, b"refused ", number, place)
-}
-
-// "wrong ROW FIELD"; 0 where the buffer could be too short.
-pub fn wrong_text(text: &mut [u8], row: u64, field: u64) -> usize
-    ensures { λ r. ⌜ Text (wrongLine row field) (now (text .entry)) (now (text .exit)) r ⌝ }
-{
-    word_text(text, b"wrong ", row, field)
-}
-
-// "yes"; 0 where the buffer could be too short.
-pub fn yes_text(text: &mut [u8]) -> usize
-    ensures { λ r. ⌜ Text yesLine (now (text .entry)) (now (text .exit)) r ⌝ }
+// "refused N PLACE", "wrong ROW FIELD" or "yes"; 0 where the buffer could be too short.
+pub fn said_text(text: &mut [u8], s: Said) -> usize
+    ensures { λ r. ⌜ Text (saidLine s) (now (text .entry)) (now (text .exit)) r ⌝ }
 {
     if text.len() < LONGEST {
         return 0;
     }
-    put_bytes(text, 0, b"yes\n")
+    match s {
+        Said::Refused(number, place) => put_word(text, b"refused ", number, place),
+        Said::Wrong(row, field) => put_word(text, b"wrong ", row, field),
+        Said::Yes => put_bytes(text, 0, b"yes\n"),
+    }
 }
 
 // A line for each of the first n rows; a row of seven numbers is at most 148 bytes long.

@@ -1,21 +1,24 @@
 -- `filed::filed_text` meets its contract. Assumes nothing.
 use borrow.Author.Needs.{needs}
 use mathlib.Core.Path.{ap, _∙_}
+use Rattle.text.specs.Line.{saidLine}
 use Rattle.filed.specs.Said.{lineOf}
 use Rattle.filed.proofs.Saying.{text-of, long-file, long-text, not-long}
 use Rattle.filed.proofs.filed_text.Statement.{statement}
 use Rattle.filed.proofs.filed_text.Tie as tie
 
 returns : tie.Need-returns
+unfolding saidLine
 returns c =
     let t = c .before .before in
-    text-of _ _ _ _ _ (long-file _ _ (t .before .before .if1 .taken)) (t .refused-text .ensures)
+    text-of _ _ _ _ _ (long-file _ _ (t .before .before .if1 .taken)) (t .said-text .ensures)
 
 returns-2 : tie.Need-returns-2
+unfolding saidLine
 returns-2 c =
     let t = c .before .before in
     let f = t .before .before in
-    text-of _ _ _ _ _ (long-text _ _ (f .before .if1 .left) (f .if2 .taken)) (t .refused-text2 .ensures)
+    text-of _ _ _ _ _ (long-text _ _ (f .before .if1 .left) (f .if2 .taken)) (t .said-text2 .ensures)
 
 returns-3 : tie.Need-returns-3
 returns-3 c =

@@ -5,7 +5,7 @@ use Rattle.historian.proofs.refuse.Statement.{statement}
 use Rattle.historian.proofs.refuse.Tie as tie
 
 part-write-all-end : tie.Need-part-write-all-end
-part-write-all-end c = text-within _ _ _ _ (c .before .before .refused-text .ensures)
+part-write-all-end c = text-within _ _ _ _ (c .before .before .said-text .ensures)
 
 pub refuse-spec : {M : Type 1} → statement M
 refuse-spec =
