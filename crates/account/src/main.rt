@@ -1,4 +1,8 @@
 // The program: a record file on standard input, its answer on standard output.
+mod answer;
+
+use crate::answer::SEEN;
+use crate::answer::answer_input;
 
 // An argument, which a caller may take for the file's name, is refused before anything is read.
 fn refuse_arguments() {
@@ -13,9 +17,9 @@ fn main() {
         refuse_arguments();
         return;
     }
-    let mut file = [0u8; 65537];
+    let mut file = [0u8; SEEN];
     let mut text = [0u8; 8192];
-    let answer = input::answer_input(&mut file, &mut text);
+    let answer = answer_input(&mut file, &mut text);
     if answer.failed {
         io::write_all(
             libc::STDERR_FILENO,

@@ -1,6 +1,4 @@
--- One read and its answer, reads one behind the other, and what is said of the bytes that came.
+-- One read and its answer, and reads one behind the other.
 pub mod Answers
 pub mod Lending
 pub mod Going
-pub mod Answering
-pub mod Only

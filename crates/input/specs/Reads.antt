@@ -1,7 +1,7 @@
--- What a call that reads promises: the reads that it made, and that it goes by the bytes which they delivered.
+-- What a call that reads promises: the reads that it made, and the bytes which they delivered.
 --
--- No uniqueness lemma exists for these promises: what the system answers to a read, and the bytes that it delivers, are no input of the call, so two calls on
--- equal buffers may answer differently and both be right. Of equal bytes one text is right (proofs/Only.antt).
+-- No uniqueness lemma exists for this promise: what the system answers to a read, and the bytes that it delivers, are no input of the call, so two calls on
+-- equal buffers may answer differently and both be right.
 --
 -- Not said, since the contract of `read` says nothing of the bytes: that those delivered are the file's. Nor that no other read was made, whose bytes would
 -- be lost: that is seen in the code, which has one call of `read`.
@@ -11,9 +11,6 @@ use mathlib.Core.Bool.{Bool, true, false}
 use mathlib.Core.List.{List, [], _++_}
 use lib.ListN.{length, take, drop}
 use lib.IntN.{ℤ, pos, negsuc}
-use Rattle.law.specs.Words.{pick}
-use Rattle.text.specs.Text.{Text}
-use Rattle.printed.specs.Program.{printed}
 use Rattle.input.specs.declared.Got.{Got}
 use Rattle.input.specs.Asked.{Asked}
 
@@ -32,15 +29,3 @@ module _ (fd : ℤ) (piece : ℕ) where
   pub record Delivered (old new : List ℕ) (got : Got) : Type 0 where
     pub reads : Reads 0 old new (take (got .count) new) (got .failed)
     pub most : got .count ≤ length new
-
--- one byte more than the most that is accepted (13), so that a longer input is seen
-abbrev pub seenBytes : ℕ
-seenBytes = 65_537
-
--- standard input (0) read into a buffer of that length, and what the program prints for the bytes that were delivered; nothing where a read failed
-pub record Answered (old new text text' : List ℕ) (got : Got) : Type 0 where
-  pub bytes : List ℕ
-  pub reads : Reads (pos 0) seenBytes 0 old new bytes (got .failed)
-  pub long : length new ≡ seenBytes
-  pub says : Text (pick (got .failed) [] (printed bytes)) text text' (got .count)
-  pub most : got .count ≤ length text'

@@ -1,9 +1,9 @@
-// The input of a program: a descriptor read into a lent buffer, and a record file read from standard input and answered.
+// The input of a program: a descriptor read into a lent buffer.
 ghost use Prim.Native.Nat.{_<_};
 ghost use mathlib.Core.Path.{_≡_};
 ghost use lib.ListN.{length};
 ghost use Rattle.input.specs.Asked.{room, Asked};
-ghost use Rattle.input.specs.Reads.{Delivered, Answered};
+ghost use Rattle.input.specs.Reads.{Delivered};
 
 // How many bytes there are, and whether a read failed: a read that fails is not the end of the input.
 pub struct Got {
@@ -49,27 +49,6 @@ pub fn read_pieces(fd: i32, buf: &mut [u8], piece: usize) -> Got
         }
         count += got as usize;
     }
-    Got {
-        count,
-        failed: false,
-    }
-}
-
-// A program's whole file, read from standard input, and the text of its answer; no text where a read failed. The buffer has one byte more than the most that
-// is accepted, so that a longer input is seen and refused with 13.
-pub fn answer_input(file: &mut [u8; 65537], text: &mut [u8; 8192]) -> Got
-    ensures { λ r. ⌜ Answered (now (file .entry)) (now (file .exit)) (now (text .entry)) (now (text .exit)) r ⌝ }
-{
-    let input = read_pieces(libc::STDIN_FILENO, file, 65537);
-    if input.failed {
-        return Got {
-            count: 0,
-            failed: true,
-        };
-    }
-    let n = input.count;
-    let bytes = &file[..];
-    let count = printed::program_text(&bytes[0..n], text);
     Got {
         count,
         failed: false,

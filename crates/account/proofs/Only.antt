@@ -7,8 +7,8 @@ use Rattle.law.specs.Words.{pick}
 use Rattle.text.specs.Text.{Text}
 use Rattle.text.proofs.Only.{text-only}
 use Rattle.printed.specs.Program.{printed}
 use Rattle.input.specs.declared.Got.{Got}
-use Rattle.input.specs.Reads.{Answered}
+use Rattle.account.specs.Answered.{Answered}
 
 pub answer-input : (old₁ new₁ old₂ new₂ text text₁ text₂ : List ℕ) (g₁ g₂ : Got) (a : Answered old₁ new₁ text text₁ g₁) (b : Answered old₂ new₂ text text₂ g₂)
     → b .bytes ≡ a .bytes → g₂ .failed ≡ g₁ .failed → (g₁ .count ≡ g₂ .count) × (text₁ ≡ text₂)

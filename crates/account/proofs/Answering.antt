@@ -10,10 +10,11 @@ use Rattle.law.specs.Words.{pick}
 use Rattle.text.specs.Text.{Text}
 use Rattle.text.proofs.Texts.{text-none}
 use Rattle.printed.specs.Program.{printed}
 use Rattle.input.specs.declared.Got.{Got}
-use Rattle.input.specs.Reads.{Reads, Delivered, seenBytes, Answered}
+use Rattle.input.specs.Reads.{Reads, Delivered}
+use Rattle.account.specs.Answered.{seenBytes, Answered}
 
-module _ (old new text : List ℕ) (input : Got) (d : Delivered (pos 0) seenBytes old new input) (l : length new ≡ seenBytes) where
+module _ (old new text : List ℕ) (input : Got) (l : length new ≡ seenBytes) (d : Delivered (pos 0) seenBytes old new input) where
   reads-as : (failed : Bool) → input .failed ≡ failed → Reads (pos 0) seenBytes 0 old new (take (input .count) new) failed
   reads-as failed e = subst (Reads (pos 0) seenBytes 0 old new (take (input .count) new)) e (d .reads)
 

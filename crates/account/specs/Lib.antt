@@ -1,0 +1,2 @@
+-- What the program says of its input.
+pub mod Answered
