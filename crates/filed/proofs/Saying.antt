@@ -8,13 +8,7 @@ use Rattle.law.specs.Words.{need, needAll}
 use Rattle.law.proofs.Tests.{need-le, need-not-le}
 use Rattle.rules.specs.Judge.{refuse}
 use Rattle.text.specs.Line.{refusedLine}
-use Rattle.text.specs.Text.{Text}
-use Rattle.text.proofs.Texts.{text-as, text-within}
 use Rattle.filed.specs.Said.{checkedText, lineOf, said}
-
--- a text by other words for its bytes; what is counted stands in the buffer
-pub text-of : (xs ys old new : List ℕ) (r : ℕ) → xs ≡ ys → Text xs old new r → Text ys old new r × (r ≤ length new)
-text-of xs ys old new r e t = (text-as xs ys old new r e t, text-within xs old new r t)
 
 module _ (file text : List ℕ) where
   pub long-file : mostBytes < length file → refusedLine (refuse 13 0) ≡ said file text

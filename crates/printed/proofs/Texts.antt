@@ -18,12 +18,8 @@ use Rattle.answers.proofs.Answers.{stated, denied}
 use Rattle.text.specs.Numbers.{spaced}
 use Rattle.text.specs.Line.{refusedLine}
 use Rattle.text.specs.Text.{Text, rowsText, statedText, statedLines}
-use Rattle.text.proofs.Texts.{text-as, text-within, all-there}
+use Rattle.text.proofs.Texts.{text-of, all-there}
 use Rattle.printed.specs.Program.{rowLines, totalLine, printedFrom, printed}
-
--- a text by other words for its bytes, which stand in the buffer
-pub text-of : (xs ys old new : List ℕ) (r : ℕ) → xs ≡ ys → Text xs old new r → Text ys old new r × (r ≤ length new)
-text-of xs ys old new r e t = (text-as xs ys old new r e t, text-within xs old new r t)
 
 -- ---- the rows of lines
 rows-text : (lines : List Line) (rest : List ℕ) → rowsText (rowsOf lines ++ rest) (length lines) ≡ rowLines lines

@@ -48,6 +48,10 @@ text-within bytes old new r t = within-by (leb 8_192 (length old)) (t .counts) (
     within-by true c s = omega (arith, c, ap length s, length-append bytes (drop (length bytes) old))
     within-by false c s = omega (arith, c)
 
+-- a text by other words for its bytes, which stand in the buffer
+pub text-of : (xs ys old new : List ℕ) (r : ℕ) → xs ≡ ys → Text xs old new r → Text ys old new r × (r ≤ length new)
+text-of xs ys old new r e t = (text-as xs ys old new r e t, text-within xs old new r t)
+
 -- ---- rows that are not there have no text
 module _ (rows : List ℕ) (n : ℕ) (totals : List ℕ) where
   pub too-many : 48 < n → [] ≡ statedLines rows n totals

@@ -3,7 +3,8 @@ use borrow.Author.Needs.{needs}
 use mathlib.Core.Path.{ap, _∙_}
 use Rattle.text.specs.Line.{saidLine}
 use Rattle.filed.specs.Said.{lineOf}
-use Rattle.filed.proofs.Saying.{text-of, long-file, long-text, not-long}
+use Rattle.text.proofs.Texts.{text-of}
+use Rattle.filed.proofs.Saying.{long-file, long-text, not-long}
 use Rattle.filed.proofs.filed_text.Statement.{statement}
 use Rattle.filed.proofs.filed_text.Tie as tie
 

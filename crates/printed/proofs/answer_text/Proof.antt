@@ -2,7 +2,8 @@
 use mathlib.Core.Path.{refl}
 use borrow.Author.Needs.{needs}
 use Rattle.text.specs.Line.{saidLine}
-use Rattle.printed.proofs.Texts.{text-of, answer-refused, text-stated}
+use Rattle.text.proofs.Texts.{text-of}
+use Rattle.printed.proofs.Texts.{answer-refused, text-stated}
 use Rattle.printed.proofs.answer_text.Statement.{statement}
 use Rattle.printed.proofs.answer_text.Tie as tie
 

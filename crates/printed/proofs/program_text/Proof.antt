@@ -1,7 +1,8 @@
 -- `printed::program_text` meets its contract. Assumes nothing.
 use borrow.Author.Needs.{needs}
 use Rattle.text.specs.Line.{saidLine}
-use Rattle.printed.proofs.Texts.{text-of, over-long, not-long}
+use Rattle.text.proofs.Texts.{text-of}
+use Rattle.printed.proofs.Texts.{over-long, not-long}
 use Rattle.printed.proofs.program_text.Statement.{statement}
 use Rattle.printed.proofs.program_text.Tie as tie
 
