@@ -1,5 +1,6 @@
 -- What is said of the bytes that were delivered: of equal bytes one text is right (proofs/Only.antt).
-use Rattle.std.specs.Prelude.{ℕ, ◌≤◌, ◌≡◌, List, [], length, pos}
+use Rattle.std.specs.Prelude.{ℕ, ◌≤◌, ◌<◌, ◌≡◌, List, [], length, Option, false}
+use Rattle.std.specs.Io.KnownBytes.{Consumes, IsAtEnd}
 use Rattle.law.specs.Words.{pick}
 use Rattle.text.specs.Text.{Text}
 use Rattle.printed.specs.Program.{printed}
@@ -10,10 +11,14 @@ use Rattle.input.specs.Reads.{Reads}
 abbrev pub seen_bytes : ℕ
 seen_bytes = 65_537
 
--- standard input (0) read into a buffer of that length, and what the program prints for the bytes that were delivered; nothing where a read failed
-pub record Answered (old new text text' : List ℕ) (got : Got) : Type 0 where
-  pub bytes : List ℕ
-  pub reads : Reads (pos 0) seen_bytes 0 old new bytes got.failed
-  pub long : length new ≡ seen_bytes
-  pub says : Text (pick got.failed [] (printed bytes)) text text' got.count
-  pub most : got.count ≤ length text'
+module _ {R : Type 0} (remaining : R → Option (List ℕ)) where
+  -- The reader read into a buffer of that length, and what the program prints for the bytes that were delivered; nothing where a read failed. Where the bytes
+  -- that it had left are known, those delivered are the first of them, and all of them where no read failed and the buffer holds more.
+  pub record Answered (reader reader' : R) (old new text text' : List ℕ) (got : Got) : Type 0 where
+    pub bytes : List ℕ
+    pub reads : Reads remaining seen_bytes 0 reader reader' old new bytes got.failed
+    pub long : length new ≡ seen_bytes
+    pub consumed : Consumes (remaining reader) (remaining reader') bytes
+    pub ended : got.failed ≡ false → length bytes < seen_bytes → IsAtEnd (remaining reader')
+    pub says : Text (pick got.failed [] (printed bytes)) text text' got.count
+    pub most : got.count ≤ length text'

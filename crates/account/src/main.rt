@@ -1,36 +1,32 @@
 // The program: a record file on standard input, its answer on standard output.
+#![tactic(auto)]
+
 mod answer;
 
 use crate::answer::{SEEN, answer_input};
+use std::io;
 
 // An argument, which a caller may take for the file's name, is refused before anything is read.
-fn refuse_arguments() {
-    io::write_all(
-        libc::STDERR_FILENO,
+fn refuse_arguments(err: &impl Print) -> io::Result<()> {
+    err.write_all(
         b"usage: account < FILE (a record file on standard input, no arguments); nothing is stated\n",
-    );
+    )
 }
 
-fn main() {
-    if os::arg_count() > 1 {
-        refuse_arguments();
-        return;
+fn main(rt: HostRuntime) -> io::Result<()> {
+    let err = rt.stderr();
+    if input::has_arguments(&rt) {
+        return refuse_arguments(&err);
     }
     let mut file = [0u8; SEEN];
     let mut text = [0u8; 8192];
-    let answer = answer_input(&mut file, &mut text);
+    let answer = answer_input(&mut rt.stdin(), &mut file, &mut text);
     if answer.failed {
-        io::write_all(
-            libc::STDERR_FILENO,
-            b"account: the input could not be read, nothing is stated\n",
-        );
-        return;
+        return err.write_all(b"account: the input could not be read, nothing is stated\n");
     }
     let n = answer.count;
-    if !io::write_all(libc::STDOUT_FILENO, &text[0..n]) {
-        io::write_all(
-            libc::STDERR_FILENO,
-            b"account: the answer could not be written\n",
-        );
+    if rt.stdout().write_all(&text[0..n]).is_err() {
+        return err.write_all(b"account: the answer could not be written\n");
     }
+    Ok(())
 }

@@ -1,1 +1,2 @@
 // The exact figure and the stated allowance of a line stand in specs/. No code.
+#![tactic(auto)]

@@ -1,5 +1,5 @@
 -- What the program writes for each of its six calls, by what the faces and `filed` promise.
-use Rattle.std.specs.Prelude.{ℕ, ◌+◌, ◌*◌, ◌%◌, ◌^◌, ◌≤◌, List, [], ◌++◌, length, replicate, ◌==◌, from_bits, to_bits, Float}
+use Rattle.std.specs.Prelude.{ℕ, ◌+◌, ◌*◌, ◌%◌, ◌^◌, ◌≤◌, List, ◌++◌, length, replicate, ◌==◌, from_bits, to_bits, Float}
 use Rattle.std.specs.Float.{binary32, binary64}
 use Rattle.law.specs.Numbers.{total_cells}
 use Rattle.law.specs.Words.{pick, table}

@@ -2,9 +2,11 @@
 ghost use Rattle.std.specs.Prelude.{◌≤◌, length};
 
 use crate::{account_call, check_call, filed_call, import_call, panel_call, survey_call};
+use std::io;
+use std::io::Read;
 
 // The six numbers of a header.
-#[derive(Drop)]
+#[derive(Clone, Copy)]
 struct Header {
     call: u32,
     a: u32,
@@ -27,9 +29,9 @@ fn header_of(s: &[u8]) -> Header {
 }
 
 // The bytes behind a header; false where they do not all come.
-fn read_bytes(bytes: &mut [u8]) -> bool {
+fn read_bytes(from: &mut impl Read, bytes: &mut [u8]) -> bool {
     let n = bytes.len();
-    let got = input::read_pieces(libc::STDIN_FILENO, bytes, 1_000_000);
+    let got = input::read_pieces(from, bytes, 1_000_000);
     got.count == n
 }
 
@@ -66,21 +68,21 @@ fn account_of(h: Header, file: &[u8], out: &mut [u8]) -> usize
 }
 
 // The account's answer; 0 where the frame is larger than its room or cut short.
-fn account_frame(h: Header, file: &mut [u8], out: &mut [u8]) -> usize
+fn account_frame(from: &mut impl Read, h: Header, file: &mut [u8], out: &mut [u8]) -> usize
     ensures { result ≤ length out.new }
 {
     let n = h.a as usize;
     if file.len() < n {
         return 0;
     }
-    if !read_bytes(&mut file[0..n]) {
+    if !read_bytes(from, &mut file[0..n]) {
         return 0;
     }
     account_of(h, &file[0..n], out)
 }
 
 // The answer of a panel's hour; 0 where the frame is larger than its room or cut short.
-fn panel_frame(h: Header, file: &mut [u8], out: &mut [u8]) -> usize
+fn panel_frame(from: &mut impl Read, h: Header, file: &mut [u8], out: &mut [u8]) -> usize
     ensures { result ≤ length out.new }
 {
     if file.len() < 8 {
@@ -89,7 +91,7 @@ fn panel_frame(h: Header, file: &mut [u8], out: &mut [u8]) -> usize
     if out.len() < 20 {
         return 0;
     }
-    if !read_bytes(&mut file[0..8]) {
+    if !read_bytes(from, &mut file[0..8]) {
         return 0;
     }
     let total = field::u64_at(file, 0);
@@ -97,7 +99,7 @@ fn panel_frame(h: Header, file: &mut [u8], out: &mut [u8]) -> usize
 }
 
 // The governing survey's answer; 0 where the frame is larger than its room or cut short.
-fn survey_frame(h: Header, file: &mut [u8], out: &mut [u8]) -> usize
+fn survey_frame(from: &mut impl Read, h: Header, file: &mut [u8], out: &mut [u8]) -> usize
     ensures { result ≤ length out.new }
 {
     let e = h.a as usize;
@@ -108,7 +110,7 @@ fn survey_frame(h: Header, file: &mut [u8], out: &mut [u8]) -> usize
     if out.len() < 18 {
         return 0;
     }
-    if !read_bytes(&mut file[0..n]) {
+    if !read_bytes(from, &mut file[0..n]) {
         return 0;
     }
     let hour = (h.c % 65_536) as u16;
@@ -131,14 +133,14 @@ fn import_of(h: Header, text: &[u8], out: &mut [u8]) -> usize
 }
 
 // The import's answer; 0 where the frame is larger than its room or cut short.
-fn import_frame(h: Header, file: &mut [u8], out: &mut [u8]) -> usize
+fn import_frame(from: &mut impl Read, h: Header, file: &mut [u8], out: &mut [u8]) -> usize
     ensures { result ≤ length out.new }
 {
     let n = h.a as usize;
     if file.len() < n {
         return 0;
     }
-    if !read_bytes(&mut file[0..n]) {
+    if !read_bytes(from, &mut file[0..n]) {
         return 0;
     }
     import_of(h, &file[0..n], out)
@@ -160,7 +162,7 @@ fn check_of(h: Header, file: &[u8], cells: &[u8], out: &mut [u8]) -> usize
 }
 
 // The check's answer; 0 where the frame is larger than its room or cut short.
-fn check_frame(h: Header, file: &mut [u8], out: &mut [u8]) -> usize
+fn check_frame(from: &mut impl Read, h: Header, file: &mut [u8], out: &mut [u8]) -> usize
     ensures { result ≤ length out.new }
 {
     let f = h.a as usize;
@@ -168,14 +170,14 @@ fn check_frame(h: Header, file: &mut [u8], out: &mut [u8]) -> usize
     if file.len() < n {
         return 0;
     }
-    if !read_bytes(&mut file[0..n]) {
+    if !read_bytes(from, &mut file[0..n]) {
         return 0;
     }
     check_of(h, &file[0..f], &file[f..n], out)
 }
 
 // The line that `checker` prints of a file and a text; 0 where the frame is larger than its room or cut short.
-fn filed_frame(h: Header, file: &mut [u8], out: &mut [u8]) -> usize
+fn filed_frame(from: &mut impl Read, h: Header, file: &mut [u8], out: &mut [u8]) -> usize
     ensures { result ≤ length out.new }
 {
     let f = h.a as usize;
@@ -186,51 +188,60 @@ fn filed_frame(h: Header, file: &mut [u8], out: &mut [u8]) -> usize
     if out.len() < 8196 {
         return 0;
     }
-    if !read_bytes(&mut file[0..n]) {
+    if !read_bytes(from, &mut file[0..n]) {
         return 0;
     }
     filed_call::answer(&file[0..f], &file[f..n], out)
 }
 
 // The answer by the call; 0 for an unknown one.
-fn answer_frame(h: Header, file: &mut [u8], out: &mut [u8]) -> usize
+fn answer_frame(from: &mut impl Read, h: Header, file: &mut [u8], out: &mut [u8]) -> usize
     ensures { result ≤ length out.new }
 {
     let call = h.call;
     match call {
-        1 => account_frame(h, file, out),
-        2 => panel_frame(h, file, out),
-        3 => survey_frame(h, file, out),
-        4 => import_frame(h, file, out),
-        5 => check_frame(h, file, out),
-        6 => filed_frame(h, file, out),
+        1 => account_frame(from, h, file, out),
+        2 => panel_frame(from, h, file, out),
+        3 => survey_frame(from, h, file, out),
+        4 => import_frame(from, h, file, out),
+        5 => check_frame(from, h, file, out),
+        6 => filed_frame(from, h, file, out),
         _ => 0,
     }
 }
 
 // Why the program stops before the end of its input.
-fn stop(why: &[u8]) -> bool {
-    io::write_all(libc::STDERR_FILENO, why);
-    false
+fn stop(err: &impl Print, why: &[u8]) -> io::Result<bool> {
+    err.write_all(why)?;
+    Ok(false)
 }
 
 // One frame answered, by one write; false where the program is to end.
-pub fn next(file: &mut [u8], out: &mut [u8]) -> bool {
+pub fn next(
+    from: &mut impl Read,
+    to: &impl Print,
+    err: &impl Print,
+    file: &mut [u8],
+    out: &mut [u8],
+) -> io::Result<bool> {
     let mut header = [0u8; 24];
-    let got = input::read_pieces(libc::STDIN_FILENO, &mut header, 24);
+    let got = input::read_pieces(from, &mut header, 24);
     if got.count < 24 {
         if got.failed || got.count > 0 {
-            stop(b"calls: a header is cut short\n");
+            return stop(err, b"calls: a header is cut short\n");
         }
-        return false;
+        return Ok(false);
     }
     let h = header_of(&header);
-    let n = answer_frame(h, file, out);
+    let n = answer_frame(from, h, file, out);
     if n == 0 {
-        return stop(b"calls: a frame is unknown, too large for its room or cut short\n");
+        return stop(
+            err,
+            b"calls: a frame is unknown, too large for its room or cut short\n",
+        );
     }
-    if !io::write_all(libc::STDOUT_FILENO, &out[0..n]) {
-        return stop(b"calls: an answer could not be written\n");
+    if to.write_all(&out[0..n]).is_err() {
+        return stop(err, b"calls: an answer could not be written\n");
     }
-    true
+    Ok(true)
 }

@@ -9,7 +9,7 @@ pub fn fill_u32s(cells: &mut [u32], seed: u32)
 {
     let mut i: usize = 0;
     while i < cells.len() {
-        cells[i] = std::num::wrapping_add_u32(seed, i as u32);
+        cells[i] = seed.wrapping_add(i as u32);
         i += 1;
     }
 }
@@ -21,7 +21,7 @@ pub fn fill_u64s(cells: &mut [u64], seed: u32)
 {
     let mut i: usize = 0;
     while i < cells.len() {
-        cells[i] = std::num::wrapping_add_u32(seed, i as u32) as u64;
+        cells[i] = seed.wrapping_add(i as u32) as u64;
         i += 1;
     }
 }
@@ -33,7 +33,7 @@ pub fn fill_bytes(cells: &mut [u8], seed: u32)
 {
     let mut i: usize = 0;
     while i < cells.len() {
-        cells[i] = (std::num::wrapping_add_u32(seed, i as u32) % 256) as u8;
+        cells[i] = (seed.wrapping_add(i as u32) % 256) as u8;
         i += 1;
     }
 }

@@ -1,4 +1,6 @@
 // Lists of cells: cleared and written from the front.
+#![tactic(auto)]
+
 ghost use Rattle.std.specs.Prelude.{◌≡◌, min, length, get_or};
 ghost use Rattle.law.specs.Words.{table, over};
 

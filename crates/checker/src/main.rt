@@ -1,36 +1,34 @@
 // The program: a record file and the text of a filing on standard input, what is said of the filing on standard output. Before the file stand four bytes, its
 // length, little-endian; the text is what comes behind it.
+#![tactic(auto)]
+
+use std::io;
+use std::io::Read;
 
 // An argument, which a caller may take for a file's name, is refused before anything is read.
-fn refuse_arguments() {
-    io::write_all(
-        libc::STDERR_FILENO,
+fn refuse_arguments(err: &impl Print) -> io::Result<()> {
+    err.write_all(
         b"usage: checker < FRAME (a record file behind its length, and a filed text, on standard input, no arguments); nothing is said\n",
-    );
+    )
 }
 
 // A file that is cut, or a read that failed: nothing can be said of the filing.
-fn refuse_input() {
-    io::write_all(
-        libc::STDERR_FILENO,
-        b"checker: the input could not be read, nothing is said\n",
-    );
+fn refuse_input(err: &impl Print) -> io::Result<()> {
+    err.write_all(b"checker: the input could not be read, nothing is said\n")
 }
 
 // One line on standard output.
-fn say(line: &[u8]) {
-    if !io::write_all(libc::STDOUT_FILENO, line) {
-        io::write_all(
-            libc::STDERR_FILENO,
-            b"checker: the answer could not be written\n",
-        );
+fn say(out: &impl Print, err: &impl Print, line: &[u8]) -> io::Result<()> {
+    if out.write_all(line).is_err() {
+        return err.write_all(b"checker: the answer could not be written\n");
     }
+    Ok(())
 }
 
 // The length before the record file; more than any that is taken where it does not come.
-fn length() -> usize {
+fn length(from: &mut impl Read) -> usize {
     let mut four = [0u8; 4];
-    let got = input::read_pieces(libc::STDIN_FILENO, &mut four, 4);
+    let got = input::read_pieces(from, &mut four, 4);
     if got.count < 4 {
         return 0xffff_ffff;
     }
@@ -38,43 +36,44 @@ fn length() -> usize {
 }
 
 // The text behind the record file, and what is said of both.
-fn answer(file: &[u8]) {
+fn answer(from: &mut impl Read, out: &impl Print, err: &impl Print, file: &[u8]) -> io::Result<()> {
     let mut text = [0u8; 65537];
-    let got = input::read_pieces(libc::STDIN_FILENO, &mut text, 65537);
+    let got = input::read_pieces(from, &mut text, 65537);
     if got.failed {
-        refuse_input();
-        return;
+        return refuse_input(err);
     }
     let n = got.count;
     let mut line = [0u8; 8192];
     let k = filed::filed_text(file, &text[0..n], &mut line);
-    say(&line[0..k]);
+    say(out, err, &line[0..k])
 }
 
 // The record file is read into the lent room, which is as long as the longest that is taken.
-fn answer_frame(file: &mut [u8]) {
-    let n = length();
+fn answer_frame(
+    from: &mut impl Read,
+    out: &impl Print,
+    err: &impl Print,
+    file: &mut [u8],
+) -> io::Result<()> {
+    let n = length(from);
     if n == 0xffff_ffff {
-        refuse_input();
-        return;
+        return refuse_input(err);
     }
     if n > file.len() {
-        say(b"refused 13 0\n");
-        return;
+        return say(out, err, b"refused 13 0\n");
     }
-    let got = input::read_pieces(libc::STDIN_FILENO, &mut file[0..n], 65536);
+    let got = input::read_pieces(from, &mut file[0..n], 65536);
     if got.count < n {
-        refuse_input();
-        return;
+        return refuse_input(err);
     }
-    answer(&file[0..n]);
+    answer(from, out, err, &file[0..n])
 }
 
-fn main() {
-    if os::arg_count() > 1 {
-        refuse_arguments();
-        return;
+fn main(rt: HostRuntime) -> io::Result<()> {
+    let err = rt.stderr();
+    if input::has_arguments(&rt) {
+        return refuse_arguments(&err);
     }
     let mut file = [0u8; 65536];
-    answer_frame(&mut file);
+    answer_frame(&mut rt.stdin(), &rt.stdout(), &err, &mut file)
 }

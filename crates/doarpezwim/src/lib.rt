@@ -1,4 +1,6 @@
 // The faces for C and Rust: the account, a panel's hour, the governing survey, the import of a text, the check of what was filed.
+#![tactic(auto)]
+
 ghost use Rattle.survey.specs.Governing.{governing};
 ghost use Rattle.doarpezwim.specs.Faces.{panel_of, AccountFace, PanelFace, PartFace, ImportFace, CheckFace};
 
@@ -6,8 +8,7 @@ use panel::Panel;
 
 mod faces;
 
-#[unsafe(no_mangle)]
-pub extern "C" fn doarpezwim_account(
+pub fn doarpezwim_account(
     file: &[u8],
     rows: &mut [u64],
     concentration: &mut [u32],
@@ -23,8 +24,7 @@ pub extern "C" fn doarpezwim_account(
 }
 
 // An unknown kind is refused before the state is looked at.
-#[unsafe(no_mangle)]
-pub extern "C" fn doarpezwim_panel_hour(
+pub fn doarpezwim_panel_hour(
     total: &mut f64,
     hours: &mut u32,
     missing: &mut u32,
@@ -51,9 +51,8 @@ pub extern "C" fn doarpezwim_panel_hour(
     s.number
 }
 
-// An exported call hands no reference back, so the block is copied out.
-#[unsafe(no_mangle)]
-pub extern "C" fn doarpezwim_governing_survey<'a>(
+// The export behind hands no reference back, so the block is copied out.
+pub fn doarpezwim_governing_survey<'a>(
     enforcement: &'a [u8],
     plant: &'a [u8],
     hour: u16,
@@ -70,8 +69,7 @@ pub extern "C" fn doarpezwim_governing_survey<'a>(
 }
 
 // Three cells for the answer: number, line, and how many bytes of records were written.
-#[unsafe(no_mangle)]
-pub extern "C" fn doarpezwim_import(text: &[u8], records: &mut [u8], answer: &mut [u64; 3]) -> u32
+pub fn doarpezwim_import(text: &[u8], records: &mut [u8], answer: &mut [u64; 3]) -> u32
     ensures { ImportFace text.now records.old result answer.new records.new }
 {
     let said = import::import_days(text, records);
@@ -80,13 +78,7 @@ pub extern "C" fn doarpezwim_import(text: &[u8], records: &mut [u8], answer: &mu
 }
 
 // Three cells for the answer: whether it agrees, is wrong or refused, and row and field, or number and place.
-#[unsafe(no_mangle)]
-pub extern "C" fn doarpezwim_check(
-    file: &[u8],
-    rows: &[u64],
-    totals: &[u64; 5],
-    answer: &mut [u64; 3],
-) -> u32
+pub fn doarpezwim_check(file: &[u8], rows: &[u64], totals: &[u64; 5], answer: &mut [u64; 3]) -> u32
     ensures { CheckFace file.now rows.now totals.now result answer.new }
 {
     let cells = faces::verdict_cells(filed::check_filed(file, rows, totals));

@@ -1,4 +1,6 @@
 // What a plant has filed, checked against the account of its record file.
+#![tactic(auto)]
+
 mod against;
 mod compare;
 mod texts;
@@ -14,7 +16,7 @@ use rules::Fault;
 use text::Said;
 
 // Rows and totals are those of the account; or the first row and field that is wrong, both from 0; or refused.
-#[derive(Drop)]
+#[derive(Clone, Copy)]
 pub enum Verdict {
     Agrees,
     Wrong(usize, usize),

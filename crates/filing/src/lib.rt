@@ -1,4 +1,6 @@
 // The text of a filing read into cells: rows of seven numbers, then five totals.
+#![tactic(auto)]
+
 mod lines;
 mod numbers;
 mod rows;
@@ -11,7 +13,7 @@ use crate::rows::row_at;
 use crate::totals::{refused, totals_at};
 
 // Number and line of what refuses the text, both 0 where nothing does; how many cells its rows have, and its totals.
-#[derive(Drop)]
+#[derive(Clone, Copy)]
 pub struct Filing {
     pub number: u32,
     pub line: usize,

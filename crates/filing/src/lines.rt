@@ -6,7 +6,7 @@ ghost use Rattle.filing.specs.Parts.{Lined};
 use crate::numbers::next_number;
 
 // How many numbers a line has, the place behind it, and whether all are in their range; where it is no line of numbers, the count is 0.
-#[derive(Drop)]
+#[derive(Clone, Copy)]
 pub struct Line {
     pub count: usize,
     pub end: usize,

@@ -7,7 +7,7 @@ ghost use Rattle.filing.specs.Parts.{held, RowRead};
 use crate::lines::{numbers_at, starts_with};
 
 // What refuses a row, 0 where nothing does; how many numbers it has, and the place behind it.
-#[derive(Drop)]
+#[derive(Clone, Copy)]
 pub struct Row {
     pub number: u32,
     pub count: usize,

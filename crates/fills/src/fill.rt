@@ -10,7 +10,7 @@ use crate::window::{largest_of, last_720, put_peaks};
 use cells::lesser;
 
 // A fill, and how many peaks of the valid values are there by then.
-#[derive(Drop)]
+#[derive(Clone, Copy)]
 pub struct Found {
     pub value: u32,
     pub peaked: usize,

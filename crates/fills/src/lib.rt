@@ -1,4 +1,6 @@
 // The hours of a line's period: the gaps of both quantities filled.
+#![tactic(auto)]
+
 mod fill;
 mod gaps;
 mod stretch;

@@ -4,7 +4,7 @@ ghost use Rattle.law.specs.Words.{over};
 ghost use Rattle.fills.specs.Parts.{spot, Scanned, Measured};
 
 // The missing hours up to the next measured one, and that hour, or the number of hours.
-#[derive(Drop)]
+#[derive(Clone, Copy)]
 pub struct Gap {
     pub missing: usize,
     pub next: usize,

@@ -30,10 +30,14 @@ in_range_more b batches r l s a =
     }
 
 -- ---- the sums are enough
+-- a batch more, over the sums of the others
+dust_step : (a b kg ash weighted burnt top : ℕ) → a * weighted + 100 * b * burnt ≡ top → a * (kg * ash + weighted) + 100 * b * (kg + burnt) ≡ kg * (a * ash + 100 * b) + top
+dust_step a b kg ash weighted burnt top e = simp spread (omega (arith, simp spread at e))
+
 dust_top : (a b : ℕ) (batches : List Batch) → a * ash_of batches + 100 * b * fuel batches ≡ fuel_top (Dust a b) batches
 unfolding ash_of fuel fuel_top sum_of
 dust_top a b [] = simp mul-zero
-dust_top a b (x ∷ batches) = simp spread (omega (arith, simp spread at (dust_top a b batches)))
+dust_top a b (x ∷ batches) = dust_step a b x.kg x.ash (ash_of batches) (fuel batches) (fuel_top (Dust a b) batches) (dust_top a b batches)
 
 pub top_is : (entry : Coefficients) (batches : List Batch) → top_of entry (fuel batches) (sulphur_of batches) (ash_of batches) ≡ fuel_top entry batches
 unfolding top_of fuel_top

@@ -1,4 +1,6 @@
 // Fuel speaks: the figures of balance, oxides and dust.
+#![tactic(auto)]
+
 ghost use Rattle.std.specs.Prelude.{◌≡◌, ◌<◌, ◌≤◌};
 ghost use Rattle.law.specs.Words.{halves_up};
 ghost use Rattle.rules.specs.Tables.{coefficients_of};
@@ -7,7 +9,7 @@ ghost use Rattle.fuel.specs.Fuel.{figure_of, Ranged, fuel_figure, fuel_on_paper}
 use rules::{Coefficients, Head};
 
 // The grams by fuel; that a table entry is wanting; or that an amount is out of the document's range.
-#[derive(Drop)]
+#[derive(Clone, Copy)]
 pub enum FuelFigure {
     Grams(u64),
     WithoutEntry,

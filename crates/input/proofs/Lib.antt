@@ -1,4 +1,4 @@
--- One read and its answer, and reads one behind the other.
-pub mod Answers
+-- One read, reads one behind the other, and that of known bytes no second answer meets the promise.
 pub mod Lending
 pub mod Going
+pub mod Only

@@ -1,4 +1,6 @@
 // The figures of a line: its row; a survey put in and weighed, by hours and by days.
+#![tactic(auto)]
+
 mod days;
 mod marked;
 mod surveyed;

@@ -6,7 +6,7 @@ use crate::marked::{mark_state, put_cell};
 use rules::Survey;
 
 // What a survey adds to those of a line: one hour and its c x l, or nothing; and how many missing hours fewer the line has.
-#[derive(Drop)]
+#[derive(Clone, Copy)]
 pub struct Weighed {
     pub count: u32,
     pub weight: u64,

@@ -90,7 +90,11 @@ sums mu de nu dd a b p q =
 -- the sum of two whole floats that are not negative is the whole number's sum, rounded once
 sum-of : (f : Format) (x y : Float) (a b : ℕ) → HasValue x false a 1 → HasValue y false b 1 → add f x y ≡ round f false (a + b) 1
 unfolding add sum
+sum-of f nan y a b v w = elim v [ ]
+sum-of f (inf _) y a b v w = elim v [ ]
 sum-of f (fin true m e) y a b v w = absurd (true≢false v.0)
+sum-of f (fin false m e) nan a b v w = elim w [ ]
+sum-of f (fin false m e) (inf _) a b v w = elim w [ ]
 sum-of f (fin false m e) (fin true n d) a b v w = absurd (true≢false w.0)
 sum-of f (fin false m e) (fin false n d) a b v w =
     round_same f false (m * up e * down d + n * up d * down e) (down e * down d) (a + b) 1 (mul-pos (down_pos e) (down_pos d)) (zero-lt-suc 0)
@@ -107,6 +111,8 @@ add_exact x q f t h = ap (λ (y : Float). add binary64 y (as_total q)) (sym (aga
 -- ---- the tests of the code
 above_of : (x : Float) (n : ℕ) → HasValue x false n 1 → T (lt (fin true 1 (pos 0)) x)
 unfolding lt
+above_of nan n v = elim v [ ]
+above_of (inf _) n v = elim v [ ]
 above_of (fin true m e) n v = absurd (true≢false v.0)
 above_of (fin false m e) n v = lt→ltb 0 (1 * 1 * down e + m * up e * 1) (more (down e) (m * up e * 1) (down_pos e))
   where
@@ -115,6 +121,8 @@ above_of (fin false m e) n v = lt→ltb 0 (1 * 1 * down e + m * up e * 1) (more 
 
 below_of : (x : Float) (n : ℕ) → n < 2 ^ 64 → HasValue x false n 1 → T (lt x (fin false 1 (pos 64)))
 unfolding lt
+below_of nan n h v = elim v [ ]
+below_of (inf _) n h v = elim v [ ]
 below_of (fin true m e) n h v = absurd (true≢false v.0)
 below_of (fin false m e) n h v =
     lt→ltb (m * up e * 1) (1 * 2 ^ 64 * down e) (subst (λ (k : ℕ). k < 1 * 2 ^ 64 * down e) (sym v.1) (mul-lt-mul_of_pos_right h (down_pos e)))
@@ -132,6 +140,8 @@ module _ (x : Float) (f : T (fits binary64 x)) (t : T (lawful_total x)) where
 
 no_nan : (x : Float) (n : ℕ) → HasValue x false n 1 → T (not (is_nan x))
 unfolding is_nan
+no_nan nan n v = elim v [ ]
+no_nan (inf _) n v = elim v [ ]
 no_nan (fin s m e) n v = tt
 
 pub cast_no_nan : (n : ℕ) → n ≤ 2 ^ 53 → T (not (is_nan (as_total n)))

@@ -1,4 +1,6 @@
 // The panel: a running total of whole products in an f64, with its hours and missing hours.
+#![tactic(auto)]
+
 ghost use Rattle.std.specs.Prelude.{◌≡◌, ◌*◌, ◌<◌, true};
 ghost use Rattle.law.specs.Numbers.{most_hours};
 ghost use Rattle.reading.specs.Reading.{concentration_of, flow_of, both};
@@ -10,7 +12,7 @@ use reading::{Hour, Rounded};
 mod lawful;
 
 // "The panel keeps a running total as an f64, with its hours and missing hours."
-#[derive(Drop)]
+#[derive(Clone, Copy)]
 pub struct Panel {
     pub total: f64,
     pub hours: u32,
@@ -18,7 +20,7 @@ pub struct Panel {
 }
 
 // The next state beside its refusal number.
-#[derive(Drop)]
+#[derive(Clone, Copy)]
 pub struct Stepped {
     pub number: u32,
     pub next: Panel,

@@ -1,4 +1,6 @@
 // What the program prints: the text of a file's answer, written into a lent buffer.
+#![tactic(auto)]
+
 ghost use Rattle.std.specs.Prelude.{◌≤◌, length};
 ghost use Rattle.rules.specs.Walk.{outcome};
 ghost use Rattle.text.specs.Text.{Text};

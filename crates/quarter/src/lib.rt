@@ -1,4 +1,6 @@
 // The account call: one file in, every row proved.
+#![tactic(auto)]
+
 ghost use Rattle.std.specs.Prelude.{◌≡◌, [], ◌++◌, ◌≤◌, length, drop};
 ghost use Rattle.law.specs.Numbers.{most_hours};
 ghost use Rattle.rules.specs.Row.{cells};

@@ -46,8 +46,8 @@ module _ {A X : Type 0} where
         pub entries_alike : {b a : List (Slot A)} {y x : List (Slot X)} → Forall₂ (Alike R) b y → Forall₂ (Alike R) a x
             → Forall₂ Q (entries own rule nothing b a) (entries own' rule' nothing' y x)
         unfolding entries
-        entries_alike h Forall₂.nil = Forall₂.nil
-        entries_alike h (Forall₂.cons r k) = Forall₂.cons (entry_alike h r k) (entries_alike (Forall₂.cons r h) k)
+        entries_alike {b = b} {y = y} h Forall₂.nil = Forall₂.nil
+        entries_alike {b = b} {y = y} h (Forall₂.cons {a = a} {b = b'} r k) = Forall₂.cons (entry_alike h r k) (entries_alike {b = a ∷ b} {y = b' ∷ y} (Forall₂.cons r h) k)
 
 -- hours that are alike, each turned into other values
 module _ {A X B Y : Type 0} {R : A → X → Type 0} (Q : B → Y → Type 0) (f : A → B) (g : X → Y) (q : (a : A) (x : X) → R a x → Q (f a) (g x)) where

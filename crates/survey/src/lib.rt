@@ -1,4 +1,6 @@
 // The governing survey: a part of one of two lent byte slices.
+#![tactic(auto)]
+
 ghost use Rattle.std.specs.Prelude.{◌≡◌, ◌+◌, ◌*◌, ◌/◌, ◌≤◌, length};
 ghost use Rattle.law.specs.Words.{seek};
 ghost use Rattle.survey.specs.Governing.{is_survey, here, governing};

@@ -6,7 +6,7 @@ ghost use Rattle.tables.specs.Rows.{entry_of, pair_of, size_class_of};
 use rules::DustEntry;
 
 // A row of table A.1: the MW from which it holds, a and b of dust, and the oxides of pulverised coal by mark, 0 for a dash.
-#[derive(Drop)]
+#[derive(Clone, Copy)]
 pub struct ClassRow {
     pub from: u16,
     pub pulverised: DustEntry,

@@ -1,4 +1,6 @@
 // What the tables q, K and A.1 have for a line.
+#![tactic(auto)]
+
 mod entries; // entries.rt
 mod classes; // classes.rt
 mod table_a1; // table_a1.rt

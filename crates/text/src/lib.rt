@@ -1,4 +1,6 @@
 // The texts that the programs print, written into a lent buffer: a refusal, rows and totals, what is said of a filing.
+#![tactic(auto)]
+
 ghost use Rattle.std.specs.Prelude.{◌+◌, ◌*◌, ◌≤◌, [], ◌∷◌, ◌++◌, length};
 ghost use Rattle.law.specs.Numbers.{row_cells};
 ghost use Rattle.law.specs.Written.{Wrote};
@@ -14,7 +16,7 @@ mod writing;
 const LONGEST: usize = 8192;
 
 // A line that is said of a file or of a filing.
-#[derive(Drop)]
+#[derive(Clone, Copy)]
 pub enum Said {
     Refused(u64, u64),
     Wrong(u64, u64),

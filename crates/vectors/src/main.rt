@@ -1,36 +1,41 @@
 // Answers every file of a corpus: each comes on standard input with its length in four bytes before it, little-endian.
+#![tactic(auto)]
+
+use std::io;
+use std::io::Read;
 
 // The text that the program prints; for a file that is too long for the program, the library's own answer behind it.
-fn answer(file: &[u8]) {
+fn answer(out: &impl Print, file: &[u8]) -> io::Result<()> {
     let mut text = [0u8; 8192];
     let k = printed::program_text(file, &mut text);
-    io::write_all(libc::STDOUT_FILENO, &text[0..k]);
+    out.write_all(&text[0..k])?;
     if file.len() > 65536 {
         let n = printed::answer_text(file, &mut text);
-        io::write_all(libc::STDOUT_FILENO, &text[0..n]);
+        out.write_all(&text[0..n])?;
     }
+    Ok(())
 }
 
 // One file answered; false at the end of the corpus. A length is read in pieces of 3 bytes and a file in pieces of the size given, so that both are put
 // together from several reads.
-fn next(buf: &mut [u8], piece: usize) -> bool {
+fn next(from: &mut impl Read, out: &impl Print, buf: &mut [u8], piece: usize) -> io::Result<bool> {
     let mut length = [0u8; 4];
-    let four = input::read_pieces(libc::STDIN_FILENO, &mut length, 3);
+    let four = input::read_pieces(from, &mut length, 3);
     if four.count < 4 {
-        return false;
+        return Ok(false);
     }
     let n = field::u32_at(&length, 0) as usize;
     if n > buf.len() {
-        io::write_all(libc::STDOUT_FILENO, b"too long for this corpus\n");
-        return false;
+        out.write_all(b"too long for this corpus\n")?;
+        return Ok(false);
     }
-    let whole = input::read_pieces(libc::STDIN_FILENO, &mut buf[0..n], piece);
+    let whole = input::read_pieces(from, &mut buf[0..n], piece);
     if whole.count < n {
-        io::write_all(libc::STDOUT_FILENO, b"cut short\n");
-        return false;
+        out.write_all(b"cut short\n")?;
+        return Ok(false);
     }
-    answer(&buf[0..n]);
-    true
+    answer(out, &buf[0..n])?;
+    Ok(true)
 }
 
 // Odd sizes, another from file to file.
@@ -43,15 +48,17 @@ fn piece(turn: u32) -> usize {
 }
 
 // A proved loop has to end: it counts down from more files than a corpus has.
-fn answer_all(buf: &mut [u8]) {
-    let mut left: u32 = 1_000_000;
-    while left > 0 && next(buf, piece(left)) {
-        left -= 1;
+fn answer_all(from: &mut impl Read, out: &impl Print, buf: &mut [u8]) -> io::Result<()> {
+    for left in (1..=1_000_000).rev() {
+        if !next(from, out, buf, piece(left))? {
+            break;
+        }
     }
+    Ok(())
 }
 
 // Room for files that are too long for the program, too.
-fn main() {
+fn main(rt: HostRuntime) -> io::Result<()> {
     let mut buf = [0u8; 100_000];
-    answer_all(&mut buf);
+    answer_all(&mut rt.stdin(), &rt.stdout(), &mut buf)
 }

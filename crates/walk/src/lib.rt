@@ -1,4 +1,6 @@
 // One walk over the file: the answer, the rows of all its lines, and the work cells.
+#![tactic(auto)]
+
 mod books; // books.rt
 mod close; // close.rt
 mod put; // put.rt
@@ -17,7 +19,7 @@ use crate::turns::walk_records;
 use rules::{Answer, Fault};
 
 // The answer to a file, with cells for the rows of 48 lines.
-#[derive(Drop)]
+#[derive(Clone, Copy)]
 pub struct Walked {
     pub answer: Answer,
     pub rows: [u64; 336],

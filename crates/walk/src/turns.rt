@@ -12,7 +12,7 @@ use crate::take::{Taken, take_in};
 use rules::{FINE, Fault, Record, View};
 
 // How far the walk is: the first fault or none, the next place to read, the view and the sums.
-#[derive(Drop)]
+#[derive(Clone, Copy)]
 pub struct Progress {
     pub fault: Fault,
     pub at: usize,
@@ -21,7 +21,7 @@ pub struct Progress {
 }
 
 // What the walk found: a fault, or how many lines.
-#[derive(Drop)]
+#[derive(Clone, Copy)]
 pub struct Tally {
     pub fault: Fault,
     pub lines: u32,

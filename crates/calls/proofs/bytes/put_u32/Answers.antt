@@ -1,0 +1,18 @@
+-- `calls::bytes::put_u32` meets its contract: four bytes, one behind the other. Assumes nothing.
+use Rattle.std.proofs.Common.{arith, length-set, rules}
+use Rattle.field.specs.Bytes.{u32_bytes}
+use Rattle.field.proofs.Puts.{wrote_four}
+use Rattle.calls.proofs.bytes.put_u32.Goals as goal
+
+pub bounds-out-at-2 : goal.bounds-out-at-2
+bounds-out-at-2 c = simp length-set (omega arith)
+
+pub bounds-out-at-3 : goal.bounds-out-at-3
+bounds-out-at-3 c = simp length-set (omega arith)
+
+pub bounds-out-at-4 : goal.bounds-out-at-4
+bounds-out-at-4 c = simp length-set (omega arith)
+
+pub returns : goal.returns
+unfolding u32_bytes
+returns c = wrote_four _ _ _ _ _ _ (search rules)

@@ -1,0 +1,24 @@
+-- `calls::lent::fill_u64s` meets its contract: the numbers are written from the front. Assumes nothing.
+use Rattle.std.proofs.Common.{length, ◌∙◌, arith, refl}
+use Rattle.law.proofs.Over.{writing_start, writing_more, writing_done, over_all}
+use Rattle.calls.specs.Answers.{lent_cells}
+use Rattle.calls.proofs.lent.fill_u64s.Goals as goal
+
+pub loop-i-init : goal.loop-i-init
+loop-i-init c = writing_start _ _
+
+pub loop-i-smaller : goal.loop-i-smaller
+loop-i-smaller c = omega (arith, c.loop-i.invariant.long)
+
+pub loop-i-preserved : goal.loop-i-preserved
+loop-i-preserved c = let l = c.loop-i in writing_more _ _ _ l.i _ l.invariant (omega (arith, l.invariant.long)) refl
+
+pub shape_of-cells : goal.shape_of-cells
+shape_of-cells c = c.loop-i.invariant.long
+
+pub returns : goal.returns
+unfolding lent_cells
+returns c =
+    let l = c.loop-i in
+    let d = c.args.cells.now in
+    writing_done _ _ _ l.i (length d) l.invariant (omega (arith, l.invariant.long, l.invariant.within)) ∙ over_all _ (length d) d (omega arith)

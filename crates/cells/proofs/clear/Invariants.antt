@@ -1,0 +1,11 @@
+-- `cells::clear` meets its contract: 0 is written from the front. Assumes nothing.
+use Prim.Native.Nat.{◌-◌}
+use lib.ListN.{length}
+use Rattle.law.proofs.Over.{Writing}
+use Rattle.cells.proofs.clear.Given as goal
+
+abbrev pub invariant-loop-i : goal.invariant-loop-i
+invariant-loop-i l = Writing (λ h. 0) l.initial.cells l.cells l.i
+
+abbrev pub decreases-loop-i : goal.decreases-loop-i
+decreases-loop-i l = length l.initial.cells - l.i

@@ -1,0 +1,12 @@
+-- `judge::faults::wrong_or` meets its contract, by its test. Assumes nothing.
+use mathlib.Core.Path.{refl}
+use Rattle.law.proofs.Tests.{need_on, need_off}
+use Rattle.rules.specs.Judge.{refuse}
+use Rattle.judge.proofs.faults.wrong_or.Goals as goal
+
+pub returns-then-fits : goal.returns-then-fits
+returns-then-fits c = need_on _ _ _ _ c.if-fits.true refl
+
+pub returns : goal.returns
+unfolding refuse
+returns c = need_off _ _ _ c.if-fits.false
