@@ -8,31 +8,31 @@ NAME.filed beside it is a filing, and its NAME.out has what `checker` must print
 NAME.roomN.out with number and line, and where that is `0 0` a NAME.roomN.days with the records written.
 
 No code of the account takes part. Each record file becomes one statement, `printed FILE ≡ ANSWER`, and each filing one, `said FILE TEXT ≡ ANSWER`. Each text
-becomes two, of what is answered and of the lent bytes afterwards: `answerOf N TEXT ≡ ANSWER` and `bufferAfter nearestBy TEXT LENT ≡ BYTES`. All are proved by
-refl in throwaway crates of a throwaway repository under target/compute/, which holds links to the rules and copies of the other definitions. Larger files than
-BYTES (3000) are passed over.
+becomes two, of what is answered and of the lent bytes afterwards: `answer_of N TEXT ≡ ANSWER` and `buffer_after nearest_by TEXT LENT ≡ BYTES`. All are proved
+by refl in throwaway crates of a throwaway repository in the folder for temporary files, which holds copies of the rules and of the other definitions. Larger
+files than BYTES (3000) are passed over.
 A statement that is refused is named as `disagrees`, one that takes more steps than the checker allows as `no verdict`: a text costs the lines looked at times
 the bytes from there on, and 16,000 bytes that are accepted pass. The last line says whether all agree; the exit status is 0 only where they do.
 """
-import os, re, shutil, subprocess, sys, time
+import os, re, shutil, subprocess, sys, tempfile, time
 
 import restated
 
 ROOT = os.path.dirname(os.path.dirname(os.path.abspath(__file__)))
-WORK = os.path.join(ROOT, 'target', 'compute')
-BATCH = 24  # files to a crate: rt proves several crates at a time
+WORK = tempfile.mkdtemp(prefix='compute-')  # outside the repository, as the gate wants no crates.txt below its top
+BATCH = 24  # files to a crate: rt checks two crates at a time
 FILLER = 170  # what each lent byte holds before the import
-HEAD = '''use Prim.Native.Nat.{ℕ, zero, suc, _/_, _%_}
-use mathlib.Core.List.{List, [], _∷_}
-use mathlib.Core.Path.{_≡_, refl}
+HEAD = '''use Prim.Native.Nat.{ℕ, zero, suc, ◌/◌, ◌%◌}
+use mathlib.Core.List.{List, [], ◌∷◌}
+use mathlib.Core.Path.{◌≡◌, refl}
 use lib.ListN.{replicate}
-use Rattle·printed.specs.Program.{printed}
-use Rattle·printed.specs.Opened.{prints}
-use Rattle·import.specs.Computed.{nearestBy}
-use Rattle·import.specs.Import.{answerOf, bufferAfter}
-use Rattle·import.specs.Opened.{texts}
-use Rattle·filed.specs.Said.{said}
-use Rattle·filed.specs.Opened.{checks}
+use Rattle.printed.specs.Program.{printed}
+use Rattle.printed.specs.Opened.{prints}
+use Rattle.import.specs.Computed.{nearest_by}
+use Rattle.import.specs.Import.{answer_of, buffer_after}
+use Rattle.import.specs.Opened.{texts}
+use Rattle.filed.specs.Said.{said}
+use Rattle.filed.specs.Opened.{checks}
 
 -- n bytes, the lowest first
 unfoldable spread : ℕ → ℕ → List ℕ
@@ -82,7 +82,9 @@ def definitions(lines):
     deps = listed()
     base = reached('rules', deps)
     for c in base:
-        os.symlink(os.path.join(ROOT, 'crates', c), os.path.join(WORK, 'crates', c))
+        for part in ('src', 'specs', 'proofs'):
+            if os.path.isdir(os.path.join(ROOT, 'crates', c, part)):
+                shutil.copytree(os.path.join(ROOT, 'crates', c, part), os.path.join(WORK, 'crates', c, part))
         lines.append('%s: %s' % (c, ' '.join(deps[c])))
     base.append(definition('text', ['Numbers', 'Line', 'Opened'], 'law rules', lines))
     base.append(definition('printed', ['Program', 'Opened'], 'law rules text', lines))
@@ -114,8 +116,8 @@ def of_text(f):
     days = open(f[:-4] + '.days', 'rb').read() if number == '0' else b''
     after = days + bytes([FILLER]) * (lent - len(days)) if number == '0' else bytes(lent)
     answer = 'record { number = %s; line = %s; count = %d }' % (number, line, len(days))
-    return [(', the answer', 'answerOf %d (%s)' % (lent, text), answer, 'texts'),
-            (', the lent bytes', 'bufferAfter nearestBy (%s) (replicate %d %d)' % (text, lent, FILLER), spread(after), 'texts')]
+    return [(', the answer', 'answer_of %d (%s)' % (lent, text), answer, 'texts'),
+            (', the lent bytes', 'buffer_after nearest_by (%s) (replicate %d %d)' % (text, lent, FILLER), spread(after), 'texts')]
 
 
 def statements(f, later):
@@ -136,14 +138,17 @@ def module(files, later):
 
 def tell(log):
     """Which statements the checker refuses, and of which it cannot tell."""
+    crate = ''
     for line in log.split('\n'):
-        m = re.match(r'.*crates/(computed\d+)/specs/Computed\.antt:(\d+):\d+: error(.*)', line)
-        if m:
-            text = open(os.path.join(WORK, 'crates', m.group(1), 'specs', 'Computed.antt'), encoding='utf-8').read().split('\n')
-            at = int(m.group(2)) - 1
+        if line.startswith('== '):
+            crate = line[3:].split()[0]
+        m = re.match(r'.*proofs/Computed\.antt:(\d+):\d+: error(.*)', line)
+        if m and crate.startswith('computed'):
+            text = open(os.path.join(WORK, 'crates', crate, 'proofs', 'Computed.antt'), encoding='utf-8').read().split('\n')
+            at = int(m.group(1)) - 1
             while at > 0 and not text[at].startswith('-- '):
                 at -= 1
-            print('no verdict:' if 'step limit' in m.group(3) else 'disagrees:', text[at][3:])
+            print('no verdict:' if 'step limit' in m.group(2) else 'disagrees:', text[at][3:])
         elif 'error' in line:
             print(line[:400])
 
@@ -163,21 +168,24 @@ def main(args):
     if not files:
         sys.exit(__doc__)
     later = restated.read(texts)
-    shutil.rmtree(os.path.join(WORK, 'crates'), ignore_errors=True)
     os.makedirs(os.path.join(WORK, 'crates'))
     lines, made = [], []
     base = definitions(lines)
     for k in range(0, len(files), BATCH):
         made.append('computed%d' % (k // BATCH))
-        write(made[-1], {'src/lib.rt': '// Computed.\n', 'specs/Lib.antt': 'pub mod Computed\n', 'specs/Computed.antt': module(files[k:k + BATCH], later)})
+        write(made[-1], {'src/lib.rt': '// Computed.\n', 'proofs/Lib.antt': 'pub mod Computed\n', 'proofs/Computed.antt': module(files[k:k + BATCH], later)})
         lines.append('%s: %s' % (made[-1], ' '.join(base)))
     open(os.path.join(WORK, 'crates.txt'), 'w').write('\n'.join(lines) + '\n')
     start = time.time()
-    r = subprocess.run(['rt', 'check'] + made, cwd=WORK, capture_output=True, text=True, env=dict(os.environ, RT_CUT='400'))
+    r = subprocess.run(['rt', 'all', 'check'], cwd=WORK, capture_output=True, text=True)
     tell(r.stdout + r.stderr)
     print('%d files tried in %.0f s and %d larger ones passed over: %s'
           % (len(files), time.time() - start, given - len(files), 'all agree' if r.returncode == 0 else 'NOT all agree'))
     return r.returncode
 
 
-sys.exit(main(sys.argv[1:]))
+try:
+    status = main(sys.argv[1:])
+finally:
+    shutil.rmtree(WORK, ignore_errors=True)
+sys.exit(status)

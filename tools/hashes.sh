@@ -4,17 +4,21 @@
 # usage: tools/hashes.sh            builds here; what is proved already is not proved again
 #        tools/hashes.sh --check    compares with docs/TRUST.md, and ends with 1 where a line is not there
 #        tools/hashes.sh --write    puts the lines into docs/TRUST.md
-#        tools/hashes.sh --twice    builds once more, from nothing, in a clone of HEAD in another folder, and ends with 1 where a byte differs (minutes)
+#        tools/hashes.sh --twice    builds once more in a clone of HEAD in another folder, and ends with 1 where a byte differs; rt begins there with proofs
+#                                   that other copies on this machine kept
 set -eu
+unset RT_BACKEND # with it rt builds by another compiler
 cd "$(dirname "$0")/.."
 page=docs/TRUST.md
-ships='target/bin/account target/bin/historian target/bin/checker target/staticlib/libdoarpezwim.a'
+programs='account historian checker'
+ships='crates/account/out/account crates/historian/out/historian crates/checker/out/checker target/staticlib/libdoarpezwim.a'
 
 # Proves and builds in the folder it stands in; only what goes wrong is said.
 build() {
     local said
     said=$(mktemp)
-    { rt check account historian checker && rt staticlib doarpezwim; } >"$said" 2>&1 || { cat "$said" >&2; rm -f "$said"; return 1; }
+    for name in $programs; do (cd "crates/$name" && rt run </dev/null) >>"$said" 2>&1 || { cat "$said" >&2; rm -f "$said"; return 1; }; done
+    tools/staticlib.sh >>"$said" 2>&1 || { cat "$said" >&2; rm -f "$said"; return 1; }
     rm -f "$said"
 }
 
@@ -24,7 +28,7 @@ hashes() {
     sha256sum $ships
 }
 
-case ${1:-} in '' | --check | --write | --twice) ;; *) sed -n '2,7s/^# \{0,1\}//p' "$0" >&2; exit 2 ;; esac
+case ${1:-} in '' | --check | --write | --twice) ;; *) sed -n '2,8s/^# \{0,1\}//p' "$0" >&2; exit 2 ;; esac
 build
 here=$(hashes)
 printf '%s\n' "$here"
@@ -49,6 +53,6 @@ case ${1:-} in
     git clone -q . "$other/a-folder-of-another-length"
     there=$(cd "$other/a-folder-of-another-length" && build && hashes)
     [ "$here" = "$there" ] || { printf 'in another folder:\n%s\n' "$there" >&2; exit 1; }
-    echo "the same, byte for byte, from nothing in another folder"
+    echo "the same, byte for byte, in another folder"
     ;;
 esac

@@ -100,7 +100,7 @@ killed() { # SIGNAL COMMAND...: the launcher, while it waits for more of its inp
     exec 7>&- && rm -f "$room/more"
     return $got
 }
-with_variables() { (export QEMU_STRACE=1 QEMU_ARGV0=x && "$@"); }
+with_variables() { (export LD_BIND_NOW=1 LD_WARN=1 LD_LIBRARY_PATH="$room/none" && "$@"); }
 reader_gone() { { "$@"; echo $? >"$room/status"; } | true; return "$(cat "$room/status")"; }
 four_at_once() {
     for i in 1 2 3 4; do ("$@" >"$room/out.$i" || echo failed >>"$room/out.$i") & done
@@ -225,7 +225,7 @@ expect "a name that begins with -" 0 "$stated" '' from "$room" launch account --
 expect "an empty file" 0 "$room/zero.out" "the input is empty" launch account "$room/empty"
 expect "/dev/null" 0 "$room/zero.out" "the input is empty" launch account /dev/null
 expect "nothing on standard input" 0 "$room/zero.out" "the input is empty" launch account </dev/null
-expect "the emulator's variables" 0 "$stated" '' with_variables launch account "$example"
+expect "the loader's variables" 0 "$stated" '' with_variables launch account "$example"
 expect "a file, standard input closed" 0 "$stated" '' no_stdin launch account "$example"
 expect "standard error closed" 0 "$stated" '' no_stderr launch account "$example"
 cat "$stated" "$stated" "$stated" "$stated" >"$room/four.out"
@@ -333,8 +333,7 @@ no_answer "a reader that is gone" "could not be written" reader_gone launch acco
 no_answer "standard input closed" "standard input is closed" no_stdin launch account
 no_answer "standard output closed" "standard output is closed" no_stdout launch account "$example"
 no_answer "no toolchain" "the Rattle toolchain is not installed" no_rt launch account "$example"
-if [ "$(uname -m)" != x86_64 ]; then no_answer "a toolchain without its emulator" "no emulator" other_kit launch account "$example"
-else expect "a toolchain without its loader" 0 "$stated" '' other_kit launch account "$example"; fi
+expect "a toolchain without its loader" 0 "$stated" '' other_kit launch account "$example"
 
 # ---- records of a text
 expect "a text" 0 "$days" '' launch import "$text"
@@ -350,7 +349,7 @@ expect "an empty text, /dev/null" 0 /dev/null "the text is empty" launch import 
 expect "an empty text, as standard input" 0 /dev/null "the text is empty" launch import </dev/null
 expect "a text, standard input closed" 0 "$days" '' no_stdin launch import "$text"
 expect "a text, standard error closed" 0 "$days" '' no_stderr launch import "$text"
-expect "a text, the emulator's variables" 0 "$days" '' with_variables launch import "$text"
+expect "a text, the loader's variables" 0 "$days" '' with_variables launch import "$text"
 expect "a text, no folder for temporary files" 0 "$days" '' temporary "$room/none" launch import <"$text"
 expect "a text, nothing stays behind" 0 "$days" '' left_behind launch import <"$text"
 expect "a head, the records and an end" 0 samples/imported.rec '' as_file launch import "$text"
@@ -403,7 +402,6 @@ no_answer "records for a reader that is gone" "the records could not be written"
 no_answer "a text, standard input closed, no name" "standard input is closed" no_stdin launch import
 no_answer "records for a closed standard output" "standard output is closed" no_stdout launch import "$text"
 no_answer "a text, no toolchain" "the Rattle toolchain is not installed" no_rt launch import "$text"
-if [ "$(uname -m)" != x86_64 ]; then no_answer "a text, a toolchain without its emulator" "no emulator" other_kit launch import "$text"; fi
 if command -v script >/dev/null; then
     no_answer "records for a terminal" "not for a terminal" to_terminal
     expect "a text from a terminal" 0 /dev/null "waiting for a text" at_terminal import
@@ -426,7 +424,7 @@ expect "a filing, through symbolic links, from another folder" 0 "$room/yes.out"
 expect "a filing, names that begin with -" 0 "$room/yes.out" '' from "$room" launch check -- -quarter.rec -name.txt
 expect "a filing, standard input closed" 0 "$room/yes.out" '' no_stdin launch check "$quarter" "$rows"
 expect "a filing, standard error closed" 0 "$room/yes.out" '' no_stderr launch check "$quarter" "$rows"
-expect "a filing, the emulator's variables" 0 "$room/yes.out" '' with_variables launch check "$quarter" "$rows"
+expect "a filing, the loader's variables" 0 "$room/yes.out" '' with_variables launch check "$quarter" "$rows"
 expect "a filing, nothing stays behind" 0 "$room/yes.out" '' left_behind launch check "$quarter" "$rows"
 expect "a filing, nothing stays behind of a launcher that is stopped" 143 /dev/null '' left_behind killed TERM check - "$rows"
 expect "a filing, no awk" 0 "$room/yes.out" '' broken "no awk" launch check "$quarter" "$rows"
@@ -544,8 +542,7 @@ no_answer "an answer for a closed standard output" "standard output is closed" n
 no_answer "a filing, no folder for temporary files" "nothing can be kept in $room/none" temporary "$room/none" launch check "$quarter" "$rows"
 no_answer "a filing that cannot be kept" "could not be read, or not be kept" broken "no head" launch check "$quarter" "$rows"
 no_answer "a filing, no toolchain" "the Rattle toolchain is not installed" no_rt launch check "$quarter" "$rows"
-if [ "$(uname -m)" != x86_64 ]; then no_answer "a filing, a toolchain without its emulator" "no emulator" other_kit launch check "$quarter" "$rows"
-else expect "a filing, a toolchain without its loader" 0 "$room/yes.out" '' other_kit launch check "$quarter" "$rows"; fi
+expect "a filing, a toolchain without its loader" 0 "$room/yes.out" '' other_kit launch check "$quarter" "$rows"
 if command -v script >/dev/null; then expect "a record file from a terminal" 0 "$room/yes.out" "waiting for a record file" at_terminal check "$room/none due"
 else skip "a record file from a terminal" "there is no program script here"; fi
 
@@ -566,23 +563,45 @@ no_answer "two filings" "usage:" launch check "$quarter" "$rows" "$rows"
 no_answer "an unknown option of the check" "usage:" launch check -x "$quarter" "$rows"
 no_answer "a filing's name that begins with -, without --" "usage:" from "$room" launch check "$quarter" -name.txt
 
+# ---- the programs by themselves, with the status that `main` ends with
+program() { name=$1 && shift && "$home/crates/$name/out/$name" "$@"; }
+full() { "$@" >/dev/full; }
+printf '\000\000\000\000' >"$room/nothing due" && printf 'total 0 0 0 0 0\n' >>"$room/nothing due"
+for name in account historian checker; do
+    expect "the program $name, with an argument" 0 /dev/null "usage: $name" program $name "$example" <"$example"
+    expect "the program $name, with an empty argument" 0 /dev/null "usage: $name" program $name '' <"$example"
+    expect "the program $name, standard input closed" 0 /dev/null "$name: the input could not be read" no_stdin program $name
+done
+expect "the program checker, its input cut" 0 /dev/null "checker: the input could not be read" program checker <"$room/empty"
+expect "the program checker, on what it answers" 0 "$room/yes.out" '' program checker <"$room/nothing due"
+if [ -c /dev/full ]; then
+    expect "the program account, its answer not written" 0 /dev/null "account: the answer could not be written" full program account <"$example"
+    expect "the program historian, its records not written" 0 /dev/null "historian: the records could not be written" full program historian <"$text"
+    expect "the program checker, its answer not written" 0 /dev/null "checker: the answer could not be written" full program checker <"$room/nothing due"
+else skip "answers that are not written" "there is no /dev/full here"
+fi
+
 # ---- a copy of the repository, in which things break
-copy="$room/a copy" && mkdir "$copy" && cp -R .ci crates crates.txt doarpezwim target "$copy" || exit 2
+# with what is built, so that little is proved anew; what the checks kept beside it is left out
+copy="$room/a copy" && mkdir "$copy" && tar -c --exclude=incremental .ci crates crates.txt doarpezwim | tar -x -C "$copy" || exit 2
 printf '#!/bin/sh\nexit 7\n' >"$copy/.ci/run"
 expect "test hands on the status of .ci/run" 7 /dev/null '' run "$copy/doarpezwim" test
-if [ "$(id -u)" -eq 0 ]; then skip "an unreadable file, a target/ that is another's" "root may read and write all"
+if [ "$(id -u)" -eq 0 ]; then skip "an unreadable file, folders that are another's" "root may read and write all"
 else
     chmod 000 "$room/empty" && no_answer "an unreadable file" "not allowed to read" launch account "$room/empty"
     no_answer "an unreadable record file of a filing" "not allowed to read" launch check "$room/empty" "$rows"
     no_answer "an unreadable filing" "not allowed to read" launch check "$quarter" "$room/empty"
-    chmod a-w "$copy/target" && no_answer "a target/ that is another's" "you may not write" run "$copy/doarpezwim" account "$example"
-    chmod u+w "$copy/target"
+    for folder in "$copy/out" "$copy/crates/account/out"; do
+        mkdir -p "$folder" && chmod a-w "$folder"
+        no_answer "a folder that is another's" "you may not write in $folder" run "$copy/doarpezwim" account "$example"
+        chmod u+w "$folder"
+    done
 fi
 expect "a launcher without its words" 1 "$room/coal.out" "$not_found" run "$copy/doarpezwim" account "$room/coal"
 expect "a launcher without its words for a filing" 1 "$room/wrong.out" "$unnamed" run "$copy/doarpezwim" check "$quarter" samples/filed.txt
-rm "$copy/target/bin/account"
+rm "$copy/crates/account/out/account"
 expect "a program that is gone is built again" 0 "$stated" proving run "$copy/doarpezwim" account "$example"
-rm "$copy/target/bin/checker"
+rm "$copy/crates/checker/out/checker"
 expect "that of the check too" 0 "$room/yes.out" proving run "$copy/doarpezwim" check "$quarter" "$rows"
 echo broken >>"$copy/crates/account/src/main.rt"
 no_answer "sources that are not proved, over a program from older ones" "not proved and built" run "$copy/doarpezwim" account "$example"

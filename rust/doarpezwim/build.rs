@@ -37,12 +37,12 @@ fn fits(archive: &Path) -> Result<(), String> {
     let at = archive.display();
     let bytes = fs::read(archive).map_err(|_| {
         format!(
-            "There is no archive of the proved library at {at}: run `rt staticlib doarpezwim` in the repository root, \
+            "There is no archive of the proved library at {at}: run `tools/staticlib.sh` in the repository root, \
              or set {FOLDER} to the folder that holds {ARCHIVE}."
         )
     })?;
     let is_for = processor(&bytes).ok_or_else(|| {
-        format!("{at} is no archive for Linux on a known processor: build it again by `rt staticlib doarpezwim`.")
+        format!("{at} is no archive for Linux on a known processor: build it again by `tools/staticlib.sh`.")
     })?;
     let target = (variable("CARGO_CFG_TARGET_OS"), variable("CARGO_CFG_TARGET_ARCH"));
     if target == ("linux".into(), is_for.into()) {
@@ -50,8 +50,7 @@ fn fits(archive: &Path) -> Result<(), String> {
     }
     Err(format!(
         "The archive at {at} is for linux on {is_for} and does not link into a program for {} on {}: build for \
-         --target x86_64-unknown-linux-gnu, or, to measure on another processor, run rust/native.sh and set \
-         {FOLDER}=../target/native.",
+         --target x86_64-unknown-linux-gnu.",
         target.0, target.1
     ))
 }

@@ -2,7 +2,7 @@
  * Reads a record file on standard input and prints its rows and totals; or prints its refusal, and on standard error
  * what that means.
  *
- * In the folder rust/ on x86-64, after `rt staticlib doarpezwim` in the repository root:
+ * In the folder rust/ on x86-64, after `tools/staticlib.sh` in the repository root:
  *
  *     mkdir -p target
  *     cc -std=c99 -Wall -Wextra -Wpedantic -O2 -I include -o target/one_file \

@@ -2,7 +2,7 @@
  * Checks what a plant has filed: reads a record file and the text of its rows and totals, as `account` prints them, and
  * says on standard output in words whether they agree, or what is wrong first.
  *
- * In the folder rust/ on x86-64, after `rt staticlib doarpezwim` in the repository root:
+ * In the folder rust/ on x86-64, after `tools/staticlib.sh` in the repository root:
  *
  *     mkdir -p target
  *     cc -std=c99 -Wall -Wextra -Wpedantic -O2 -I include -o target/one_filing \

@@ -2,7 +2,7 @@
  * Reads a historian's text export on standard input and writes its day records on standard output; or writes none, and
  * on standard error the refusal and what it means.
  *
- * In the folder rust/ on x86-64, after `rt staticlib doarpezwim` in the repository root:
+ * In the folder rust/ on x86-64, after `tools/staticlib.sh` in the repository root:
  *
  *     mkdir -p target
  *     cc -std=c99 -Wall -Wextra -Wpedantic -O2 -I include -o target/one_text \

@@ -1,9 +1,7 @@
 //! The program that answers frames, and how it is started.
 
-use std::env;
-use std::env::consts::ARCH;
 use std::ffi::OsString;
-use std::path::{Path, PathBuf};
+use std::path::Path;
 use std::process::{Child, Command, Stdio};
 use std::time::Duration;
 
@@ -23,25 +21,16 @@ impl Program {
         Program::in_repository(&Path::new(env!("CARGO_MANIFEST_DIR")).join("../.."))
     }
 
-    /// Started as the toolchain starts a program: by the kit's loader, under the kit's emulator where there is one.
+    /// The program that `rt run` leaves in a repository.
     pub fn in_repository(root: &Path) -> Result<Self, String> {
-        let program = root.join("target/bin/calls");
+        let program = root.join("crates/calls/out/calls");
         if !program.is_file() {
-            return Err("There is no target/bin/calls to compare: run `rt check calls` in the repository root.".into());
+            return Err("There is no crates/calls/out/calls to compare: run `rt run` in crates/calls.".into());
         }
-        // The kit's folders are named after what `uname -m` says, which is Rust's name for both processors.
-        let tools = kit()?.join("on").join(ARCH).join("toolchain");
-        let emulator = Some(tools.join("bin/qemu-x86_64")).filter(|path| path.is_file());
-        let loader = tools.join("lib/ld-linux-x86-64.so.2");
-        if !loader.is_file() {
-            return Err(format!("The Rattle toolchain has no loader for programs on {ARCH}; `rt selftest` tries it."));
-        }
-        let mut words: Vec<OsString> = emulator.into_iter().map(PathBuf::into_os_string).collect();
-        words.extend([loader.into(), "--library-path".into(), tools.join("lib").into(), program.into()]);
-        Ok(Program { words, patience: PATIENCE })
+        Ok(Program::by_words([program]))
     }
 
-    /// A program that runs by itself.
+    /// A program by its path and its arguments.
     pub fn by_words<W: Into<OsString>>(words: impl IntoIterator<Item = W>) -> Self {
         Program { words: words.into_iter().map(Into::into).collect(), patience: PATIENCE }
     }
@@ -55,19 +44,6 @@ impl Program {
         let (first, others) = self.words.split_first().ok_or("no program was named")?;
         let mut command = Command::new(first);
         command.args(others).stdin(Stdio::piped()).stdout(Stdio::piped());
-        // The toolchain keeps the emulator's own settings out, so that a run is the same everywhere.
-        for (name, _) in env::vars_os().filter(|(name, _)| name.to_string_lossy().starts_with("QEMU_")) {
-            command.env_remove(name);
-        }
         command.spawn().map_err(|error| format!("{} cannot be started: {error}", first.display()))
     }
-}
-
-/// The toolchain's folder: `rt doc` prints the path of its guide.
-fn kit() -> Result<PathBuf, String> {
-    let output = Command::new("rt").arg("doc").output();
-    let output = output.map_err(|error| format!("The Rattle toolchain is needed: `rt doc` cannot be run, {error}."))?;
-    let guide = String::from_utf8_lossy(&output.stdout);
-    let kit = guide.trim_end().strip_suffix("/docs/START-HERE.md");
-    kit.map(PathBuf::from).ok_or_else(|| format!("`rt doc` does not print the path of the guide, but {guide:?}."))
 }

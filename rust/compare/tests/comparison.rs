@@ -141,7 +141,7 @@ fn fails_where_the_program_does() {
 fn says_how_to_get_the_program() {
     let nowhere = Path::new(env!("CARGO_MANIFEST_DIR")).join("src");
     let why = Program::in_repository(&nowhere).expect_err("no program there");
-    assert_eq!(why, "There is no target/bin/calls to compare: run `rt check calls` in the repository root.");
+    assert_eq!(why, "There is no crates/calls/out/calls to compare: run `rt run` in crates/calls.");
 }
 
 /// The header has the version of the packages, and the numbers of document 01 and its requests in their order.
