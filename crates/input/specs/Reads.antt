@@ -1,10 +1,10 @@
 -- What a call that reads promises: the reads that it made, and the bytes which they delivered.
 --
--- No uniqueness lemma exists for this promise: what a reader answers to a read, and the bytes that it delivers, are no input of the call, so two calls on
--- equal buffers may answer differently and both be right.
+-- Two calls on equal buffers may answer differently and both be right, since what a reader answers to a read, and the bytes that it delivers, are no input of
+-- the call. Where the bytes that it has left are known (`remaining`) and no read fails, those delivered are the first of them, and no second count or bytes
+-- are right (proofs/Only.antt).
 --
--- Not said: which bytes standard input has, since nothing is known of what the system hands out. Where the bytes that a reader has left are known
--- (`remaining`), those delivered are the first of them.
+-- Not said: which bytes standard input has, since nothing is known of what the system hands out.
 use Rattle.std.specs.Prelude.{ℕ, ◌+◌, ◌≤◌, ◌<◌, Bool, true, false, List, [], ◌++◌, length, take, drop, Option, Ok, Err}
 use Rattle.std.specs.declared.io.Error.{Error}
 use Rattle.input.specs.declared.Got.{Got}
@@ -13,8 +13,8 @@ use Rattle.input.specs.Asked.{Asked}
 module _ {R : Type 0} (remaining : R → Option (List ℕ)) (piece : ℕ) where
   -- The reads into a buffer from `at` on, one behind the other: the reader before and after them, what the buffer holds before and after them, the bytes that
   -- they deliver, and whether the last one failed. They end where the buffer is full, at an answer of 0 and at an error. At an answer of k bytes the next
-  -- read is lent what lies behind those, so that none of them is changed again, and it finds the reader as the one before left it: between two of them no
-  -- other read was made, whose bytes would be lost.
+  -- read is lent what lies behind those, so that none of them is changed again, and it finds the reader as the one before left it. The functions that promise
+  -- this are proved for every reader, one that counts its reads too, so between two of them no other read was made, whose bytes would be lost.
   pub data Reads : ℕ → R → R → List ℕ → List ℕ → List ℕ → Bool → Type 0 where
     full : {at : ℕ} {reader : R} {buf : List ℕ} → length buf ≤ at → Reads at reader reader buf buf [] false
     ended : {at : ℕ} {reader reader' : R} {old new : List ℕ} → Asked remaining piece at reader reader' old new (Ok 0) → Reads at reader reader' old new [] false
