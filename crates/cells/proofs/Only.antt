@@ -3,7 +3,7 @@ use mathlib.Core.Path.{◌≡◌, ◌∙◌, sym}
 use mathlib.Core.List.{List}
 use Prim.Native.Nat.{ℕ, min}
 use lib.ListN.{length, get_or}
-use Rattle.law.specs.Words.{table, over}
+use Rattle.law.specs.Words.{over}
 
 pub lesser : (m n a b : ℕ) → a ≡ min m n → b ≡ min m n → a ≡ b
 lesser m n a b p q = p ∙ sym q

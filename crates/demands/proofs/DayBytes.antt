@@ -1,12 +1,12 @@
 -- A day record of the import, read as the account reads it: its kind and size, its masks, its pairs and its hours. Assumes nothing.
 use mathlib.Core.Path.{◌≡◌, refl, sym, ap, ap₂, ◌∙◌}
-use mathlib.Core.List.{List, [], ◌∷◌, ◌++◌}
+use mathlib.Core.List.{List, ◌++◌}
 use Prim.Native.Nat.{ℕ, zero, suc, ◌+◌, ◌*◌, ◌/◌, ◌%◌, ◌^◌, ◌<◌, ◌≤◌}
 use native.Mathlib.Nat.{mul-one, mul_comm, mul_left_comm, pow-suc}
 use native.Mathlib.Numerals.{one-add}
 use native.Mathlib.Omega.{arith}
 use lib.Pow.{shr-shr}
-use lib.ListN.{length, get_or, length-append}
+use lib.ListN.{length, length-append}
 use lib.Dec.{eqb}
 use borrow.Author.Tests.{le-leb}
 use Rattle.law.specs.Numbers.{hours_of_day, per_mg, per_cubic_metre}
@@ -15,7 +15,7 @@ use Rattle.law.proofs.Tests.{pick_eq, pick_not_eq, pick_case}
 use Rattle.law.proofs.Tabled.{table_length, table_at, table_same}
 use Rattle.law.proofs.Tallies.{tally-front}
 use Rattle.field.specs.Field.{u8, u16, u32}
-use Rattle.field.specs.Bytes.{u32_bytes, cells_bytes}
+use Rattle.field.specs.Bytes.{u32_bytes}
 use Rattle.field.proofs.Laws.{u32-from}
 use Rattle.field.proofs.Puts.{u32-sized, cells-sized, four_back, cell_back}
 use Rattle.rules.specs.declared.Masks.{Masks}

@@ -1,17 +1,16 @@
 -- A proof of what specs/Filings.antt says of every filing that is checked. Assumes nothing.
-use mathlib.Core.Path.{◌≡◌, refl, sym, ap, ap₂, subst, ◌∙◌}
+use mathlib.Core.Path.{◌≡◌, refl, sym, ap, ap₂, ◌∙◌}
 use mathlib.Core.Bool.{Bool, true, false}
 use mathlib.Core.List.{List, [], ◌∷◌, ◌++◌}
-use mathlib.Core.Logic.{◌↔◌, ◌⊎◌, inl, inr}
-use Prim.Native.Nat.{ℕ, ◌+◌, ◌-◌, ◌*◌, ◌/◌, ◌%◌, ◌^◌, ◌<◌, ◌≤◌}
-use native.Mathlib.Nat.{div-add-mod}
+use mathlib.Core.Logic.{◌↔◌, inl, inr}
+use Prim.Native.Nat.{ℕ, ◌+◌, ◌-◌, ◌*◌, ◌/◌, ◌%◌, ◌<◌, ◌≤◌}
 use native.Mathlib.Omega.{arith}
-use lib.ListN.{length, take, drop, get_or, length-append, get_or-append}
+use lib.ListN.{length, take, drop, get_or, length-append}
 use lib.Seq.{ext_get_or, take_at, drop_at, get_or-append-add, get_or-take, get_or-drop}
 use lib.Dec.{eqb, leb}
-use borrow.Author.Tests.{eq-eqb, ne_eqb, eqb-true, eqb-false, leb-true, leb-false}
+use borrow.Author.Tests.{eq-eqb, eqb-true, eqb-false, leb-true, leb-false}
 use Rattle.law.specs.Numbers.{row_cells, total_cells}
-use Rattle.law.specs.Words.{need, table}
+use Rattle.law.specs.Words.{need}
 use Rattle.law.proofs.Tabled.{table_length, table_at}
 use Rattle.rules.specs.declared.Answer.{Answer}
 use Rattle.rules.specs.declared.Fault.{Fault}
@@ -26,7 +25,7 @@ use Rattle.answers.proofs.Rows.{rows_long, row-of}
 use Rattle.answers.proofs.Never.{Ungiven, outcome-never, ungiven_8, ungiven_9}
 use Rattle.filed.specs.declared.Verdict.{Verdict}
 use Rattle.filed.specs.declared.Verdict.TheVariants.{Agrees, Wrong, Refused as Unchecked}
-use Rattle.filed.specs.Filed.{verdict_on_paper, refused_with, with_totals, compared, against_lines, against, checked}
+use Rattle.filed.specs.Filed.{verdict_on_paper, refused_with, compared, against_lines, against, checked}
 use Rattle.filed.specs.Parts.{FirstWrong}
 use Rattle.filed.proofs.Compared.{compared-wrong, compared-yes, first-exists}
 use Rattle.filed.proofs.Only.{check_only}

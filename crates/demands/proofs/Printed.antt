@@ -18,7 +18,7 @@ use Rattle.text.specs.Line.{totals_line, yes_line}
 use Rattle.text.proofs.Spaced.{spaced-most}
 use Rattle.printed.specs.Program.{row_lines, total_line, printed_from, printed}
 use Rattle.printed.proofs.Texts as printing
-use Rattle.filing.specs.Filing.{filed_limit, Read, read_of}
+use Rattle.filing.specs.Filing.{filed_limit, read_of}
 use Rattle.filing.proofs.Back.{Filed, text_of, read_back}
 use Rattle.filed.specs.Filed.{verdict_on_paper, against, checked}
 use Rattle.filed.specs.Said.{against_read, checked_text, line_by, line_of, said}

@@ -1,5 +1,5 @@
 -- What the front page says of a text that is brought in: statements only.
-use Rattle.std.specs.Prelude.{ℕ, zero, suc, ◌+◌, ◌*◌, ◌<◌, ◌≤◌, List, [], ◌∷◌, ◌++◌, ◌⊎◌, ◌≡◌, length, take, drop}
+use Rattle.std.specs.Prelude.{ℕ, zero, suc, ◌+◌, ◌*◌, ◌<◌, List, [], ◌∷◌, ◌++◌, ◌⊎◌, ◌≡◌, length, take, drop}
 use Rattle.law.specs.Numbers.{hours_of_day, per_mg, per_cubic_metre}
 use Rattle.reading.specs.Reading.{reading, concentration, flow}
 use Rattle.rules.specs.{declared.Head.Head, declared.Pair.Pair, Records.Day, Records.day_of, Records.masks_of, Records.record_in, Hours.slot_of, Slots.Slot, Slots.valid, Slots.missing, Slots.stopped}

@@ -1,8 +1,8 @@
 -- What is said of a filing, by what the walk answers of its file. Assumes nothing.
 use mathlib.Core.Path.{◌≡◌, refl, sym, ap, ap₂, ◌∙◌}
-use mathlib.Core.Bool.{Bool, true, false}
-use mathlib.Core.List.{List, ◌∷◌, [], ◌++◌}
-use Prim.Native.Nat.{ℕ, ◌+◌, ◌-◌, ◌*◌, ◌<◌, ◌≤◌}
+use mathlib.Core.Bool.{true}
+use mathlib.Core.List.{List, ◌++◌}
+use Prim.Native.Nat.{ℕ, ◌-◌, ◌*◌, ◌<◌, ◌≤◌}
 use native.Mathlib.Omega.{arith}
 use lib.ListN.{length, take, drop, length-take}
 use lib.Seq.{take_at, take_all}
@@ -15,7 +15,7 @@ use Rattle.rules.specs.OnPaper.{OnPaper}
 use Rattle.rules.specs.Outfalls.{Line}
 use Rattle.rules.specs.Judge.{refuse}
 use Rattle.rules.specs.Row.{rows_of, totals_of}
-use Rattle.rules.specs.Walk.{Refused, Accepted, outcome}
+use Rattle.rules.specs.Walk.{Refused, outcome}
 use Rattle.rules.specs.Account.{refusal, acceptance}
 use Rattle.answers.specs.Answers.{Stated, Denied}
 use Rattle.answers.proofs.Answers.{by_outcome, denied_by}

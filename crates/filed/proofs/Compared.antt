@@ -11,7 +11,6 @@ use lib.Dec.{eqb, leb}
 use borrow.Author.Count.{below_more}
 use borrow.Author.Tests.{eq-eqb, ne_eqb, eqb-true, eqb-false, leb-true, leb-false}
 use Rattle.law.specs.Numbers.{row_cells}
-use Rattle.law.specs.Words.{seek}
 use Rattle.law.proofs.Seek.{seek_first, seek_none}
 use Rattle.rules.specs.OnPaper.{OnPaper, says}
 use Rattle.filed.specs.Filed.{is_wrong, compared}

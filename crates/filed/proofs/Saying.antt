@@ -1,10 +1,10 @@
 -- The line that is said of a filing's text: 13 comes first. Assumes nothing.
-use mathlib.Core.Path.{◌≡◌, refl, ◌∙◌}
-use mathlib.Core.List.{List, []}
+use mathlib.Core.Path.{◌≡◌, refl}
+use mathlib.Core.List.{List}
 use Prim.Native.Nat.{ℕ, ◌<◌, ◌≤◌}
 use lib.ListN.{length}
 use Rattle.law.specs.Numbers.{most_bytes}
-use Rattle.law.specs.Words.{need, need_all}
+use Rattle.law.specs.Words.{need_all}
 use Rattle.law.proofs.Tests.{need_le, need_not_le}
 use Rattle.rules.specs.Judge.{refuse}
 use Rattle.text.specs.Line.{refused_line}

@@ -1,5 +1,5 @@
 -- Document 02, A6, "check what a plant has filed": "record file and filed rows in, yes or the first row and field that is wrong out".
-use Rattle.std.specs.Prelude.{ℕ, ◌*◌, ◌/◌, ◌%◌, Bool, not, List, [], ◌∷◌, ◌++◌, ◌≡◌, length, get_or, eqb}
+use Rattle.std.specs.Prelude.{ℕ, ◌*◌, ◌/◌, ◌%◌, Bool, not, List, [], ◌∷◌, ◌++◌, length, get_or, eqb}
 use Rattle.law.specs.Numbers.{row_cells}
 use Rattle.law.specs.Words.{need, seek}
 use Rattle.rules.specs.declared.Fault.{Fault}

@@ -22,7 +22,7 @@ use Rattle.rules.specs.declared.Pair.{Pair}
 use Rattle.rules.specs.declared.Survey.{Survey}
 use Rattle.rules.specs.Records.{Day}
 use Rattle.rules.specs.Slots.{valid, missing, stopped}
-use Rattle.rules.specs.Hours.{bit, pair_at, slot_of, slots_of, run_masks, measured_masks, missing_of, running, lacking}
+use Rattle.rules.specs.Hours.{bit, pair_at, slot_of, slots_of, run_masks, measured_masks, missing_of, lacking}
 use Rattle.rules.specs.Lines.{StackLine, besides, surveyed, with_bit, with_pair, measured_with, at_day, put_survey, put_surveys, days_after}
 use Rattle.rules.proofs.Days.{length_runs, length-measured, runs_at-day, measured_at-day, slots-at_day}
 

@@ -1,6 +1,5 @@
 -- `cells::clear` meets its contract: 0 is written from the front. Assumes nothing.
 use mathlib.Core.Path.{refl, ◌∙◌}
-use Prim.Native.Nat.{◌-◌}
 use native.Mathlib.Omega.{arith}
 use lib.ListN.{length}
 use Rattle.law.proofs.Over.{writing_start, writing_more, writing_done, over_all}

@@ -1,6 +1,5 @@
 -- `cells::put_figures` meets its contract: the figures are written from the front. Assumes nothing.
 use mathlib.Core.Path.{refl}
-use Prim.Native.Nat.{◌-◌}
 use native.Mathlib.Omega.{arith}
 use Rattle.law.proofs.Over.{writing_start, writing_more, writing_done}
 use Rattle.cells.proofs.put_figures.Goals as goal

@@ -1,6 +1,5 @@
 -- `filing::read_filing` meets its contract: a row that is taken adds to what the loop holds, and each way out gives the promise. Assumes nothing.
 use mathlib.Core.Path.{refl, ◌∙◌}
-use Prim.Native.Nat.{◌-◌}
 use native.Mathlib.Omega.{arith}
 use Rattle.filing.proofs.Reading.{reading-start, at-end, word_fits, totals_end, row-refused, row_on}
 use Rattle.filing.proofs.read_filing.Goals as goal

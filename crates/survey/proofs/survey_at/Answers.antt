@@ -1,7 +1,5 @@
 -- `survey::survey_at` meets its contract. The loop's invariant: the whole search gives what is left of it at `i`. Assumes nothing.
 use mathlib.Core.Path.{◌∙◌, sym}
-use Prim.Native.Nat.{◌-◌}
-use Rattle.survey.specs.Governing.{is_survey}
 use Rattle.law.proofs.Seek.{seek_hit, seek_on, seek_end, seek_start}
 use Rattle.survey.proofs.survey_at.Goals as goal
 

@@ -1,5 +1,4 @@
 -- `text::put_rows` meets its contract. Assumes nothing.
-use Prim.Native.Nat.{◌-◌}
 use native.Mathlib.Omega.{arith}
 use lib.ListN.{length-take, length-drop}
 use Rattle.text.proofs.Rows.{lining_start, lining_room, lining_on, lining_done}

@@ -1,5 +1,4 @@
 -- `doarpezwim::faces::copy_part` meets its contract: the bytes are written from the front. Assumes nothing.
-use Prim.Native.Nat.{◌-◌}
 use native.Mathlib.Omega.{arith}
 use mathlib.Core.Path.{refl}
 use Rattle.law.proofs.Over.{writing_start, writing_more}

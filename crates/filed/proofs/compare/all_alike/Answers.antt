@@ -1,5 +1,4 @@
 -- `compare::all_alike` meets its contract. The invariant: where no bit differed, the cells that are passed are alike. Assumes nothing.
-use Prim.Native.Nat.{◌-◌}
 use native.Mathlib.Omega.{arith}
 use borrow.Author.Count.{below_more}
 use borrow.Author.Tests.{eqb-true}

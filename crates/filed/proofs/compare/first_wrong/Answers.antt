@@ -1,5 +1,4 @@
 -- `compare::first_wrong` meets its contract. The invariant: the cells that are passed are alike. Assumes nothing.
-use Prim.Native.Nat.{◌-◌}
 use native.Mathlib.Omega.{arith}
 use borrow.Author.Count.{below_more}
 use Rattle.filed.proofs.compare.first_wrong.Goals as goal

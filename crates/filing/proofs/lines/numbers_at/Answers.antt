@@ -1,5 +1,4 @@
 -- `lines::numbers_at` meets its contract: what is left of the line, behind the numbers that are read, is the whole. Assumes nothing.
-use Prim.Native.Nat.{◌-◌}
 use native.Mathlib.Omega.{arith}
 use lib.ListN.{length-set}
 use Rattle.filing.proofs.Numbering.{numbering_start, numbering_on, malformed, last_lined, too_many}

@@ -1,5 +1,4 @@
 -- `lines::starts_with` meets its contract: what is left of the word against what is left of the text is the whole. Assumes nothing.
-use Prim.Native.Nat.{◌-◌}
 use native.Mathlib.Omega.{arith}
 use Rattle.filing.proofs.Starts.{matching_start, matching_on, matched, too_short, other}
 use Rattle.filing.proofs.lines.starts_with.Goals as goal

@@ -1,6 +1,5 @@
 -- `line::days::first_missing_day` meets its contract. The loop's invariant: the whole search gives what is left of it at `day`. Assumes nothing.
 use mathlib.Core.Path.{◌∙◌, sym}
-use Prim.Native.Nat.{◌-◌}
 use borrow.Author.Tests.{eq-eqb, ne_eqb}
 use Rattle.line.specs.Days.{first_lacking}
 use Rattle.law.proofs.Seek.{seek_hit, seek_on, seek_end, seek_start}

@@ -1,6 +1,5 @@
 -- `text::writing::put_bytes` meets its contract: after i turns the first i bytes stand behind what stood before. Assumes nothing.
 use mathlib.Core.Path.{refl}
-use Prim.Native.Nat.{◌-◌}
 use Rattle.law.proofs.Wrote.{copying_start, copying_on, copying_done}
 use Rattle.text.proofs.writing.put_bytes.Goals as goal
 

@@ -1,6 +1,5 @@
 -- `text::writing::put_spaced` meets its contract: each number is written with the byte behind it. Assumes nothing.
 use mathlib.Core.Path.{refl, ◌∙◌}
-use Prim.Native.Nat.{◌-◌}
 use native.Mathlib.Omega.{arith}
 use Rattle.text.proofs.Spaced.{spacing_start, spacing_on, spacing_done}
 use Rattle.text.proofs.writing.put_spaced.Goals as goal

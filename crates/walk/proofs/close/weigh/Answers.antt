@@ -1,7 +1,5 @@
 -- `walk::close::weigh` meets its contract: the sum so far and the products left are the whole. Assumes nothing.
-use Prim.Native.Nat.{◌-◌}
 use native.Mathlib.Omega.{arith}
-use Rattle.fills.specs.Weights.{products}
 use Rattle.walk.proofs.Products.{products-from, products-done}
 use Rattle.walk.proofs.close.weigh.Goals as goal
 

@@ -1,6 +1,5 @@
 -- `walk::turns::walk_records` meets its contract: what the walk has reached holds at each turn. Assumes nothing.
 use mathlib.Core.Path.{refl, sym, ◌∙◌}
-use Prim.Native.Nat.{◌-◌}
 use native.Mathlib.Omega.{arith}
 use lib.ListN.{replicate}
 use Rattle.law.specs.Numbers.{most_days, most_hours}
