@@ -564,20 +564,19 @@ no_answer "an unknown option of the check" "usage:" launch check -x "$quarter" "
 no_answer "a filing's name that begins with -, without --" "usage:" from "$room" launch check "$quarter" -name.txt
 
 # ---- the programs by themselves, with the status that `main` ends with
-program() { name=$1 && shift && "$home/crates/$name/out/$name" "$@"; }
-full() { "$@" >/dev/full; }
+program() { it=$1 && shift && "$home/crates/$it/out/$it" "$@"; }
 printf '\000\000\000\000' >"$room/nothing due" && printf 'total 0 0 0 0 0\n' >>"$room/nothing due"
 for name in account historian checker; do
-    expect "the program $name, with an argument" 0 /dev/null "usage: $name" program $name "$example" <"$example"
-    expect "the program $name, with an empty argument" 0 /dev/null "usage: $name" program $name '' <"$example"
-    expect "the program $name, standard input closed" 0 /dev/null "$name: the input could not be read" no_stdin program $name
+    expect "the program "$name", with an argument" 0 /dev/null "usage: $name" program "$name" "$example" <"$example"
+    expect "the program "$name", with an empty argument" 0 /dev/null "usage: $name" program "$name" '' <"$example"
+    expect "the program "$name", standard input closed" 0 /dev/null "$name: the input could not be read" no_stdin program "$name"
 done
 expect "the program checker, its input cut" 0 /dev/null "checker: the input could not be read" program checker <"$room/empty"
 expect "the program checker, on what it answers" 0 "$room/yes.out" '' program checker <"$room/nothing due"
 if [ -c /dev/full ]; then
-    expect "the program account, its answer not written" 0 /dev/null "account: the answer could not be written" full program account <"$example"
-    expect "the program historian, its records not written" 0 /dev/null "historian: the records could not be written" full program historian <"$text"
-    expect "the program checker, its answer not written" 0 /dev/null "checker: the answer could not be written" full program checker <"$room/nothing due"
+    expect "the program account, its answer not written" 0 /dev/null "account: the answer could not be written" to_full_disk program account <"$example"
+    expect "the program historian, its records not written" 0 /dev/null "historian: the records could not be written" to_full_disk program historian <"$text"
+    expect "the program checker, its answer not written" 0 /dev/null "checker: the answer could not be written" to_full_disk program checker <"$room/nothing due"
 else skip "answers that are not written" "there is no /dev/full here"
 fi
 

@@ -1,8 +1,8 @@
 //! Holds the proved calls against the reference.
 //!
 //! The proved program `calls` makes the calls that the frames on its standard input ask for, and answers with all that
-//! they answered and wrote. So the comparison needs no linker for x86-64: the program is started as the toolchain
-//! starts what it builds, by itself on x86-64 and by the toolchain's emulator elsewhere.
+//! they answered and wrote. So the comparison needs no linker of its own: it starts the program that `rt run` leaves in
+//! `crates/calls/out`.
 #![forbid(unsafe_code)]
 
 mod account;

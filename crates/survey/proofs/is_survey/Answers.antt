@@ -1,4 +1,4 @@
--- `survey::is_survey` meets its contract: each way out is a law of `isSurvey`. Assumes nothing.
+-- `survey::is_survey` meets its contract: each way out is a law of `is_survey`. Assumes nothing.
 use Rattle.survey.proofs.Laws.{other_length, other_kind, this_kind}
 use Rattle.survey.proofs.is_survey.Goals as goal
 
