@@ -566,10 +566,10 @@ no_answer "a filing's name that begins with -, without --" "usage:" from "$room"
 # ---- the programs by themselves, with the status that `main` ends with
 program() { it=$1 && shift && "$home/crates/$it/out/$it" "$@"; }
 printf '\000\000\000\000' >"$room/nothing due" && printf 'total 0 0 0 0 0\n' >>"$room/nothing due"
-for name in account historian checker; do
-    expect "the program "$name", with an argument" 0 /dev/null "usage: $name" program "$name" "$example" <"$example"
-    expect "the program "$name", with an empty argument" 0 /dev/null "usage: $name" program "$name" '' <"$example"
-    expect "the program "$name", standard input closed" 0 /dev/null "$name: the input could not be read" no_stdin program "$name"
+for one in account historian checker; do
+    expect "the program $one, with an argument" 0 /dev/null "usage: $one" program "$one" "$example" <"$example"
+    expect "the program $one, with an empty argument" 0 /dev/null "usage: $one" program "$one" '' <"$example"
+    expect "the program $one, standard input closed" 0 /dev/null "$one: the input could not be read" no_stdin program "$one"
 done
 expect "the program checker, its input cut" 0 /dev/null "checker: the input could not be read" program checker <"$room/empty"
 expect "the program checker, on what it answers" 0 "$room/yes.out" '' program checker <"$room/nothing due"
