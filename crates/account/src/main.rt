@@ -4,7 +4,9 @@
 mod answer;
 
 use crate::answer::{SEEN, answer_input};
+use std::env::FillError;
 use std::io;
+use std::rt::Env;
 
 // An argument, which a caller may take for the file's name, is refused before anything is read.
 fn refuse_arguments(err: &impl Print) -> io::Result<()> {
@@ -15,7 +17,8 @@ fn refuse_arguments(err: &impl Print) -> io::Result<()> {
 
 fn main(rt: HostRuntime) -> io::Result<()> {
     let err = rt.stderr();
-    if input::has_arguments(&rt) {
+    // Its text is not asked for, so one byte is room enough.
+    if !matches!(rt.arg(1, &mut [0u8; 1]), Err(FillError::NotPresent)) {
         return refuse_arguments(&err);
     }
     let mut file = [0u8; SEEN];

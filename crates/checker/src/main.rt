@@ -2,8 +2,10 @@
 // length, little-endian; the text is what comes behind it.
 #![tactic(auto)]
 
+use std::env::FillError;
 use std::io;
 use std::io::Read;
+use std::rt::Env;
 
 // An argument, which a caller may take for a file's name, is refused before anything is read.
 fn refuse_arguments(err: &impl Print) -> io::Result<()> {
@@ -71,7 +73,8 @@ fn answer_frame(
 
 fn main(rt: HostRuntime) -> io::Result<()> {
     let err = rt.stderr();
-    if input::has_arguments(&rt) {
+    // Its text is not asked for, so one byte is room enough.
+    if !matches!(rt.arg(1, &mut [0u8; 1]), Err(FillError::NotPresent)) {
         return refuse_arguments(&err);
     }
     let mut file = [0u8; 65536];

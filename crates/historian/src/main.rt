@@ -1,7 +1,9 @@
 // The program: the historian's text on standard input, its day records on standard output.
 #![tactic(auto)]
 
+use std::env::FillError;
 use std::io;
+use std::rt::Env;
 
 // An argument, which a caller may take for the file's name, is refused before anything is read.
 fn refuse_arguments(err: &impl Print) -> io::Result<()> {
@@ -33,7 +35,8 @@ fn bring_in(out: &impl Print, err: &impl Print, text: &[u8]) -> io::Result<()> {
 
 fn main(rt: HostRuntime) -> io::Result<()> {
     let err = rt.stderr();
-    if input::has_arguments(&rt) {
+    // Its text is not asked for, so one byte is room enough.
+    if !matches!(rt.arg(1, &mut [0u8; 1]), Err(FillError::NotPresent)) {
         return refuse_arguments(&err);
     }
     let mut file = [0u8; 65537];

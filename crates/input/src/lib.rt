@@ -6,21 +6,14 @@ ghost use Rattle.std.specs.Io.KnownBytes.{Consumes, IsAtEnd};
 ghost use Rattle.input.specs.Asked.{room, Asked};
 ghost use Rattle.input.specs.Reads.{Delivered};
 
-use std::env::FillError;
 use std::io;
 use std::io::Read;
-use std::rt::Env;
 
 // How many bytes there are, and whether a read failed: a read that fails is not the end of the input.
 #[derive(Clone, Copy)]
 pub struct Got {
     pub count: usize,
     pub failed: bool,
-}
-
-// Whether the program was given an argument. Its text is not asked for, so one byte is room enough.
-pub fn has_arguments(rt: &impl Env) -> bool {
-    !matches!(rt.arg(1, &mut [0u8; 1]), Err(FillError::NotPresent))
 }
 
 // How many of the bytes that are left a read is lent.
