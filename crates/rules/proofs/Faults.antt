@@ -9,7 +9,7 @@ use lib.Dec.{eqb}
 use borrow.Author.Tests.{eqb-true, eqb-false}
 use Rattle.law.specs.Words.{need, need_all, pick}
 use Rattle.law.proofs.Tests.{need_false, need_case, need_eq, need_not_eq, pick_case, all_passed}
-use Rattle.rules.specs.declared.Fault.{Fault}
+use Rattle.rules.specs.Refusals.{Fault}
 use Rattle.rules.specs.Judge.{refuse, fine, first, blamed, at_place}
 
 by_first : (f g k : Fault) (t : Bool) → eqb f.number 0 ≡ t → first (need f t g) k ≡ need f t (first g k)

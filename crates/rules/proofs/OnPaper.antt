@@ -3,13 +3,14 @@ use Prim.Native.Nat.{ℕ}
 use mathlib.Core.List.{List, [], ◌∷◌}
 use mathlib.Core.Path.{◌≡◌, refl, sym, ap, ◌∙◌}
 use lib.ListN.{get_or}
+use Rattle.std.specs.Prelude.{Option, Some, None}
 use lib.Dec.{eqb}
 use Rattle.law.specs.Words.{pick}
 use Rattle.rules.specs.declared.Survey.{Survey}
 use Rattle.rules.specs.declared.Record.{Record}
 use Rattle.rules.specs.declared.Record.TheVariants.{Bad, OfHead, OfDay, OfEnforcement, OfPlant, OfBatch, OfEnd, OfOutfallHead, OfOutfallDay, OfOutfallEnforcement, OfOutfallPlant}
 use Rattle.rules.specs.declared.Coefficients.{Coefficients}
-use Rattle.rules.specs.declared.Coefficients.TheVariants.{Balance, Oxides, Dust, NoEntry}
+use Rattle.rules.specs.declared.Coefficients.TheVariants.{Balance, Oxides, Dust}
 use Rattle.rules.specs.OnPaper.{OnPaper, record_on_paper, coefficients_on_paper}
 
 -- answers that are read back and say the same are one
@@ -55,18 +56,18 @@ pub record_only : (r s : Record) → record_on_paper r ≡ record_on_paper s →
 record_only r s e = read_back record_on_paper (λ p. record_from p.values) record_back r s e
 
 -- ---- what the tables have, by its formula
-coefficients_from : List ℕ → Coefficients
-coefficients_from [] = NoEntry
-coefficients_from (formula ∷ []) = NoEntry
-coefficients_from (formula ∷ c ∷ []) = Oxides c
-coefficients_from (formula ∷ a ∷ b ∷ v) = pick (eqb formula 4) (Balance a b) (Dust a b)
+coefficients_from : List ℕ → Option Coefficients
+coefficients_from [] = None
+coefficients_from (formula ∷ []) = None
+coefficients_from (formula ∷ c ∷ []) = Some (Oxides c)
+coefficients_from (formula ∷ a ∷ b ∷ v) = Some (pick (eqb formula 4) (Balance a b) (Dust a b))
 
-coefficients_back : (c : Coefficients) → coefficients_from (coefficients_on_paper c).values ≡ c
+coefficients_back : (c : Option Coefficients) → coefficients_from (coefficients_on_paper c).values ≡ c
 unfolding coefficients_on_paper coefficients_from pick
-coefficients_back (Balance q k) = refl
-coefficients_back (Oxides c) = refl
-coefficients_back (Dust a b) = refl
-coefficients_back NoEntry = refl
+coefficients_back (Some (Balance q k)) = refl
+coefficients_back (Some (Oxides c)) = refl
+coefficients_back (Some (Dust a b)) = refl
+coefficients_back None = refl
 
-pub coefficients_only : (c d : Coefficients) → coefficients_on_paper c ≡ coefficients_on_paper d → c ≡ d
+pub coefficients_only : (c d : Option Coefficients) → coefficients_on_paper c ≡ coefficients_on_paper d → c ≡ d
 coefficients_only c d e = read_back coefficients_on_paper (λ p. coefficients_from p.values) coefficients_back c d e

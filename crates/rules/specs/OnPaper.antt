@@ -1,9 +1,9 @@
 -- "When an answer is an enum, a definition states this paper's number and values for each of its cases": an answer as document 01 would write it down.
-use Rattle.std.specs.Prelude.{ℕ, List, [], ◌∷◌}
+use Rattle.std.specs.Prelude.{ℕ, List, [], ◌∷◌, Option, Some, None}
 use Rattle.rules.specs.declared.Record.{Record}
 use Rattle.rules.specs.declared.Record.TheVariants.{Bad, OfHead, OfDay, OfEnforcement, OfPlant, OfBatch, OfEnd, OfOutfallHead, OfOutfallDay, OfOutfallEnforcement, OfOutfallPlant}
 use Rattle.rules.specs.declared.Coefficients.{Coefficients}
-use Rattle.rules.specs.declared.Coefficients.TheVariants.{Balance, Oxides, Dust, NoEntry}
+use Rattle.rules.specs.declared.Coefficients.TheVariants.{Balance, Oxides, Dust}
 
 -- the number that refuses it, 0 where none does; and its values
 pub record OnPaper : Type 0 where
@@ -36,8 +36,8 @@ record_on_paper (OfOutfallPlant s) = says (12 ∷ s.hour ∷ s.pair.concentratio
 
 -- what the tables have: the formula, 4 or 5, and what it takes: q and K, the coefficient of oxides, a and b of dust. 7 is "method 3 or 4 with no table
 -- entry"
-unfoldable pub coefficients_on_paper : Coefficients → OnPaper
-coefficients_on_paper (Balance q k) = says (4 ∷ q ∷ k ∷ [])
-coefficients_on_paper (Oxides coefficient) = says (5 ∷ coefficient ∷ [])
-coefficients_on_paper (Dust a b) = says (5 ∷ a ∷ b ∷ [])
-coefficients_on_paper NoEntry = says_no 7
+unfoldable pub coefficients_on_paper : Option Coefficients → OnPaper
+coefficients_on_paper (Some (Balance q k)) = says (4 ∷ q ∷ k ∷ [])
+coefficients_on_paper (Some (Oxides coefficient)) = says (5 ∷ coefficient ∷ [])
+coefficients_on_paper (Some (Dust a b)) = says (5 ∷ a ∷ b ∷ [])
+coefficients_on_paper None = says_no 7
