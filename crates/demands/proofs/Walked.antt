@@ -1,4 +1,5 @@
 -- The account's walk over the file of a head, the days of an accepted text and an end. Assumes nothing.
+use Rattle.std.specs.Prelude.{Option, Some}
 use mathlib.Core.Path.{◌≡◌, refl, sym, ap, ap₂, ◌∙◌, subst}
 use mathlib.Core.Logic.{◌⊎◌, inl, inr}
 use mathlib.Core.Bool.{Bool, true, false}
@@ -17,8 +18,6 @@ use Rattle.law.proofs.Tests.{false_true, need_le, need_lt, need_not_lt, pick_eq,
 use Rattle.law.proofs.Tallies.{tally-same}
 use Rattle.law.proofs.Tabled.{table_is}
 use Rattle.field.specs.Field.{u8, u16, u32}
-use Rattle.reading.specs.declared.Rounded.{Rounded}
-use Rattle.reading.specs.declared.Rounded.TheVariants.{Value}
 use Rattle.reading.specs.Reading.{reading, stated, passes, concentration_of as concentrationIn, flow_of as flowIn}
 use Rattle.rules.specs.declared.Head.{Head}
 use Rattle.rules.specs.declared.Pair.{Pair}
@@ -78,7 +77,7 @@ range_fine day s =
       eq-eqb (strays_of (mask_of run_bit s) (mask_of measured_bit s)) 0 (no_strays s),
     )
 
-accepted_passes : (n : ℕ) (r : Rounded) → r ≡ Value n → passes (stated r) ≡ true
+accepted_passes : (n : ℕ) (r : Option ℕ) → r ≡ Some n → passes (stated r) ≡ true
 unfolding passes stated
 accepted_passes n r e = rw e
 

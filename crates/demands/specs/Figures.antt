@@ -1,10 +1,8 @@
 -- "Figures to agree on .. gathered as a single proved table with a single statement": the seven readings, both quarter cases, balance, oxides, dust; and
 -- the case of document 02, A2.
-use Rattle.std.specs.Prelude.{ℕ, List, [], ◌∷◌, map, ◌≡◌, length, replicate}
+use Rattle.std.specs.Prelude.{ℕ, List, [], ◌∷◌, map, ◌≡◌, length, replicate, Option, Some, None}
 use Rattle.law.specs.Numbers.{hours_of_day}
 use Rattle.law.specs.Words.{pick}
-use Rattle.reading.specs.declared.Rounded.{Rounded}
-use Rattle.reading.specs.declared.Rounded.TheVariants.{Value, NotAllowed}
 use Rattle.reading.specs.Reading.{reading, concentration_of, flow_of}
 use Rattle.rules.specs.declared.Head.{Head}
 use Rattle.rules.specs.declared.Pair.{Pair}
@@ -28,9 +26,9 @@ pub record Row : Type 0 where
   pub agreed : Figure
 
 -- the figure of a rounded reading
-unfoldable pub figure : Rounded → Figure
-figure (Value n) = Gives n
-figure NotAllowed = Refuses
+unfoldable pub figure : Option ℕ → Figure
+figure (Some n) = Gives n
+figure None = Refuses
 
 -- a concentration, by its bit pattern
 unfoldable pub concentration_row : ℕ → Figure → Row

@@ -7,7 +7,7 @@ ghost use Rattle.reading.specs.Reading.{concentration_of, flow_of, both};
 ghost use Rattle.panel.specs.Lawful.{lawful_total};
 ghost use Rattle.panel.specs.Panel.{unchanged, counted, added, after_hour, panel_step, empty_panel};
 
-use reading::{Hour, Rounded};
+use reading::Hour;
 
 mod lawful;
 
@@ -79,11 +79,11 @@ impl Panel {
         let x = reading::concentration(c);
         let y = reading::flow(l);
         match x {
-            Rounded::Value(n) => match y {
-                Rounded::Value(k) => self.add(n, k),
-                Rounded::NotAllowed => self.refuse(4),
+            Some(n) => match y {
+                Some(k) => self.add(n, k),
+                None => self.refuse(4),
             },
-            Rounded::NotAllowed => self.refuse(4),
+            None => self.refuse(4),
         }
     }
 

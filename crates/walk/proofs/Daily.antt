@@ -1,4 +1,5 @@
 -- The books of a line of an outfall go on from record to record, and so do the views; and what both say at its end. Assumes nothing.
+use Rattle.std.specs.Prelude.{Option}
 use mathlib.Core.Path.{◌≡◌, refl, ◌∙◌, sym, ap, ap₂, subst}
 use mathlib.Core.Bool.{Bool, true, false}
 use mathlib.Core.List.{List, [], ◌∷◌, ◌++◌, map}
@@ -14,7 +15,6 @@ use borrow.Author.Tests.{leb-true, eqb-true, eq-eqb, ne_eqb}
 use Rattle.law.specs.Numbers.{most_days, most_hours, total_cells, most_surveys, per_mg, per_cubic_metre, most_concentration, most_flow, most_amount}
 use Rattle.law.specs.Words.{need, pick, sum_of, table}
 use Rattle.law.proofs.Tabled.{table_same, table_set}
-use Rattle.reading.specs.declared.Rounded.{Rounded}
 use Rattle.reading.specs.Reading.{reading, stated, flagged_of, concentration_of, flow_of}
 use Rattle.reading.specs.Opened.{readings}
 use Rattle.rules.specs.declared.Pair.{Pair}
@@ -115,11 +115,11 @@ module _ (period : ℕ) (es ss : List Survey) (t : Survey) {count weight : ℕ} 
 -- ---- an accepted pair's kept values are its values
 pub accepted_c : (p : Pair) → PairAccepted p → pair_c p ≡ (values_of p).c
 unfolding flagged_of stated values_of
-accepted_c p e = ap (λ (r : Rounded). (flagged_of r).value) e.concentration-value
+accepted_c p e = ap (λ (r : Option ℕ). (flagged_of r).value) e.concentration-value
 
 pub accepted_l : (p : Pair) → PairAccepted p → pair_l p ≡ (values_of p).l
 unfolding flagged_of stated values_of
-accepted_l p e = ap (λ (r : Rounded). (flagged_of r).value) e.flow-value
+accepted_l p e = ap (λ (r : Option ℕ). (flagged_of r).value) e.flow-value
 
 -- eight zero bytes are the values 0
 zero_c : (flagged_of (concentration_of (reading 0))).value ≡ 0

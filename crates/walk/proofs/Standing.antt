@@ -1,4 +1,5 @@
 -- The code's state stands for the lines after each record that is taken in. Assumes nothing.
+use Rattle.std.specs.Prelude.{Option}
 use mathlib.Core.Path.{◌≡◌, refl, ◌∙◌, sym, ap, ap₂, subst, subst₂}
 use mathlib.Core.Bool.{Bool, true, false}
 use mathlib.Core.List.{List, []}
@@ -11,7 +12,6 @@ use Rattle.law.specs.Numbers.{hours_of_day, most_days, most_hours, most_lines, t
 use Rattle.law.specs.Words.{pick, table}
 use Rattle.law.proofs.Tests.{pick_true, pick_false}
 use Rattle.law.proofs.Tabled.{table_length, table_at}
-use Rattle.reading.specs.declared.Rounded.{Rounded}
 use Rattle.reading.specs.Reading.{stated, flagged_of}
 use Rattle.rules.specs.declared.Head.{Head}
 use Rattle.rules.specs.declared.Survey.{Survey}
@@ -151,11 +151,11 @@ kept-day x done bytes v s o e runs' measured' states' conc' flow' r k more turn 
 -- ---- surveys: an accepted pair's kept values are its values
 survey-c : (t : Survey) → PairAccepted t.pair → survey_c t ≡ (values_of t.pair).c
 unfolding flagged_of stated values_of
-survey-c t e = ap (λ (r : Rounded). (flagged_of r).value) e.concentration-value
+survey-c t e = ap (λ (r : Option ℕ). (flagged_of r).value) e.concentration-value
 
 survey-l : (t : Survey) → PairAccepted t.pair → survey_l t ≡ (values_of t.pair).l
 unfolding flagged_of stated values_of
-survey-l t e = ap (λ (r : Rounded). (flagged_of r).value) e.flow-value
+survey-l t e = ap (λ (r : Option ℕ). (flagged_of r).value) e.flow-value
 
 most_c : (t : Survey) → PairAccepted t.pair → (values_of t.pair).c ≤ most_concentration
 unfolding values_of
