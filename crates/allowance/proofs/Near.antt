@@ -26,7 +26,7 @@ use Rattle.rules.proofs.Alike.{slots-alike, slots-self}
 use Rattle.allowance.proofs.Account.{Halves, FillsOff, automatic-off, manual-off}
 use Rattle.allowance.proofs.Fills.{fills_off, unfilled-off}
 use Rattle.rules.proofs.Grams.{bottom_some}
-use Rattle.rules.proofs.Method.{grams-automatic, grams-manual, grams-fuel, manual-surveyed, outfall_grams-automatic, outfall_grams-manual, outfall_surveyed}
+use Rattle.rules.proofs.Methods.{grams-automatic, grams-manual, grams-fuel, manual-surveyed, outfall_grams-automatic, outfall_grams-manual, outfall_surveyed}
 
 -- ---- the readings, in units of 2^-149
 halves_of : (p : Pair) → Halves (2 ^ 149) (values_of p) (exact_of p)

@@ -10,8 +10,7 @@ use borrow.Author.Tests.{leb-false}
 use Rattle.law.specs.Numbers.{row_cells, most_cells}
 use Rattle.law.specs.Words.{need}
 use Rattle.law.proofs.Tests.{need_case}
-use Rattle.rules.specs.declared.Answer.{Answer}
-use Rattle.rules.specs.declared.Fault.{Fault}
+use Rattle.rules.specs.Refusals.{Fault, Answer}
 use Rattle.rules.specs.Outfalls.{Line}
 use Rattle.rules.specs.Row.{rows_of}
 use Rattle.rules.specs.Judge.{refuse}

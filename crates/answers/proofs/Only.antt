@@ -2,7 +2,7 @@
 use mathlib.Core.Path.{◌≡◌, ◌∙◌, sym}
 use mathlib.Core.List.{List}
 use Prim.Native.Nat.{ℕ}
-use Rattle.rules.specs.declared.Answer.{Answer}
+use Rattle.rules.specs.Refusals.{Answer}
 use Rattle.rules.specs.Account.{Promise}
 
 pub promise_only : (file rows conc flow : List ℕ) (a b : Answer) (rows₁ rows₂ conc₁ conc₂ flow₁ flow₂ : List ℕ)

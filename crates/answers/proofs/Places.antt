@@ -11,8 +11,7 @@ use Rattle.law.proofs.Tests.{need_case, pick_case}
 use Rattle.law.proofs.Each.{Each, each_none, each_more, each_at}
 use Rattle.field.specs.Field.{u8, u16, u32, u64}
 use Rattle.field.proofs.Laws.{u8-from, u16-from, u32-from, u64-from}
-use Rattle.rules.specs.declared.Answer.{Answer}
-use Rattle.rules.specs.declared.Fault.{Fault}
+use Rattle.rules.specs.Refusals.{Fault, Answer}
 use Rattle.rules.specs.declared.View.{View}
 use Rattle.rules.specs.Records.{record_in, size_in, Placed, records_from, records_of}
 use Rattle.rules.specs.Judge.{refuse, fine, judge, at_place}

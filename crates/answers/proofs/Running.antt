@@ -13,7 +13,7 @@ use Rattle.law.specs.Numbers.{hours_of_day}
 use Rattle.law.specs.Words.{need}
 use Rattle.law.proofs.Tests.{pick_case}
 use Rattle.law.proofs.Each.{Each, each_none, each_more, each_so, each_at}
-use Rattle.rules.specs.declared.Fault.{Fault}
+use Rattle.rules.specs.Refusals.{Fault}
 use Rattle.rules.specs.declared.Survey.{Survey}
 use Rattle.rules.specs.declared.View.{View}
 use Rattle.rules.specs.declared.Record.{Record}

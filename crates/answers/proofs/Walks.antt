@@ -10,7 +10,7 @@ use Rattle.law.specs.Numbers.{most_lines}
 use Rattle.law.proofs.Tests.{pick_case, all_passed}
 use Rattle.rules.specs.declared.Head.{Head}
 use Rattle.rules.specs.declared.View.{View}
-use Rattle.rules.specs.declared.Fault.{Fault}
+use Rattle.rules.specs.Refusals.{Fault}
 use Rattle.rules.specs.declared.Record.{Record}
 use Rattle.rules.specs.declared.Record.TheVariants.{Bad, OfHead, OfDay, OfEnforcement, OfPlant, OfBatch, OfEnd, OfOutfallHead, OfOutfallDay, OfOutfallEnforcement, OfOutfallPlant}
 use Rattle.rules.specs.Records.{Placed, record_in, records_of}

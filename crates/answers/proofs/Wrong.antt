@@ -12,7 +12,7 @@ use Rattle.law.specs.Words.{need, need_all, pick}
 use Rattle.field.specs.Field.{u8}
 use Rattle.law.proofs.Tests.{need_case, pick_case}
 use Rattle.law.proofs.Each.{Each, each_none, each_more, each_append, each_joined}
-use Rattle.rules.specs.declared.Fault.{Fault}
+use Rattle.rules.specs.Refusals.{Fault}
 use Rattle.rules.specs.declared.Masks.{Masks}
 use Rattle.rules.specs.declared.Pair.{Pair}
 use Rattle.rules.specs.declared.Survey.{Survey}

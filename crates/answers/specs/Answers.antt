@@ -1,8 +1,7 @@
 -- What an answer of the account call says of the file it was given.
 use Rattle.std.specs.Prelude.{ℕ, ◌*◌, ◌≤◌, List, ◌++◌, ◌≡◌, length, drop}
 use Rattle.law.specs.Numbers.{most_lines, row_cells}
-use Rattle.rules.specs.declared.Answer.{Answer}
-use Rattle.rules.specs.declared.Fault.{Fault}
+use Rattle.rules.specs.Refusals.{Fault, Answer}
 use Rattle.rules.specs.Outfalls.{Line}
 use Rattle.rules.specs.Row.{rows_of}
 use Rattle.rules.specs.Walk.{Refused, Accepted, outcome}

@@ -19,7 +19,7 @@ use Rattle.law.proofs.Tests.{false_true}
 use Rattle.reading.specs.declared.Hour.{Hour}
 use Rattle.reading.specs.Reading.{reading, allowed, exact}
 use Rattle.reading.proofs.Laws.{units_exact}
-use Rattle.rules.specs.declared.Answer.{Answer}
+use Rattle.rules.specs.Refusals.{Answer}
 use Rattle.rules.specs.Row.{concentration_cells, flow_cells}
 use Rattle.rules.specs.Judge.{refuse}
 use Rattle.rules.proofs.Surveyed.{days_no_more}

@@ -9,7 +9,7 @@ use lib.ListN.{length, get_or, set, replicate}
 use lib.Dec.{T, ltb, ltb→lt}
 use lib.Ieee.Fits.{and_l, and_r}
 use Rattle.law.specs.Numbers.{most_hours}
-use Rattle.rules.specs.declared.Answer.{Answer}
+use Rattle.rules.specs.Refusals.{Answer}
 use Rattle.rules.specs.Row.{concentration_cells, flow_cells}
 use Rattle.rules.specs.Account.{answer_of, rows_after, work_after}
 use Rattle.rules.specs.Opened.{rules}

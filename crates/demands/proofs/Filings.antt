@@ -12,8 +12,7 @@ use borrow.Author.Tests.{eq-eqb, eqb-true, eqb-false, leb-true, leb-false}
 use Rattle.law.specs.Numbers.{row_cells, total_cells}
 use Rattle.law.specs.Words.{need}
 use Rattle.law.proofs.Tabled.{table_length, table_at}
-use Rattle.rules.specs.declared.Answer.{Answer}
-use Rattle.rules.specs.declared.Fault.{Fault}
+use Rattle.rules.specs.Refusals.{Fault, Answer}
 use Rattle.rules.specs.OnPaper.{OnPaper, says}
 use Rattle.rules.specs.Judge.{refuse}
 use Rattle.rules.specs.Outfalls.{Line}

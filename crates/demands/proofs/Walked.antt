@@ -21,7 +21,7 @@ use Rattle.field.specs.Field.{u8, u16, u32}
 use Rattle.reading.specs.Reading.{reading, stated, passes, concentration_of as concentrationIn, flow_of as flowIn}
 use Rattle.rules.specs.declared.Head.{Head}
 use Rattle.rules.specs.declared.Pair.{Pair}
-use Rattle.rules.specs.declared.Fault.{Fault}
+use Rattle.rules.specs.Refusals.{Fault}
 use Rattle.rules.specs.declared.View.{View}
 use Rattle.rules.specs.declared.Record.{Record}
 use Rattle.rules.specs.declared.Record.TheVariants.{Bad, OfHead, OfDay, OfEnd}

@@ -11,7 +11,7 @@ use Rattle.law.proofs.Tests.{need_le, need_not_le, pick_eq, pick_not_eq}
 use Rattle.law.proofs.Over.{Writing, writing_done, over_all}
 use Rattle.law.proofs.Tabled.{table_is}
 use Rattle.reading.specs.declared.Hour.{Hour}
-use Rattle.rules.specs.declared.Answer.{Answer}
+use Rattle.rules.specs.Refusals.{Answer}
 use Rattle.rules.specs.Account.{Promise}
 use Rattle.panel.specs.declared.Panel.{Panel}
 use Rattle.panel.specs.declared.Stepped.{Stepped}

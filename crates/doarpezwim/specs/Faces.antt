@@ -4,7 +4,7 @@ use Rattle.law.specs.Numbers.{total_cells}
 use Rattle.law.specs.Words.{need, pick, table}
 use Rattle.reading.specs.declared.Hour.{Hour}
 use Rattle.reading.specs.declared.Hour.TheVariants.{Measured, Missing, Stopped}
-use Rattle.rules.specs.declared.Answer.{Answer}
+use Rattle.rules.specs.Refusals.{Answer}
 use Rattle.rules.specs.Row.{concentration_cells, flow_cells}
 use Rattle.rules.specs.Account.{answer_of, rows_after, work_after}
 use Rattle.panel.specs.declared.Panel.{Panel}

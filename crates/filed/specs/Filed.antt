@@ -2,7 +2,7 @@
 use Rattle.std.specs.Prelude.{ℕ, ◌*◌, ◌/◌, ◌%◌, Bool, not, List, [], ◌∷◌, ◌++◌, length, get_or, eqb}
 use Rattle.law.specs.Numbers.{row_cells}
 use Rattle.law.specs.Words.{need, seek}
-use Rattle.rules.specs.declared.Fault.{Fault}
+use Rattle.rules.specs.Refusals.{Fault}
 use Rattle.rules.specs.OnPaper.{OnPaper, says}
 use Rattle.rules.specs.Outfalls.{Line}
 use Rattle.rules.specs.Row.{rows_of, totals_of}

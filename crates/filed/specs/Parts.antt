@@ -1,6 +1,6 @@
 -- What the parts of the code promise one another: no public call is stated in these words.
 use Rattle.std.specs.Prelude.{ℕ, ◌<◌, ◌≤◌, List, ◌≡◌, length, get_or}
-use Rattle.rules.specs.declared.Answer.{Answer}
+use Rattle.rules.specs.Refusals.{Answer}
 use Rattle.rules.specs.OnPaper.{OnPaper}
 use Rattle.walk.specs.Walking.{Unlent}
 use Rattle.filed.specs.Filed.{checked}

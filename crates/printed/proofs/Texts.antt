@@ -7,7 +7,7 @@ use lib.ListN.{length}
 use borrow.Author.Tests.{le-leb}
 use Rattle.law.specs.Numbers.{most_hours, most_cells, most_bytes}
 use Rattle.law.proofs.Tests.{need_le, need_not_le}
-use Rattle.rules.specs.declared.Answer.{Answer}
+use Rattle.rules.specs.Refusals.{Answer}
 use Rattle.rules.specs.Outfalls.{Line}
 use Rattle.rules.specs.Row.{row_of, rows_of}
 use Rattle.rules.specs.Judge.{refuse}

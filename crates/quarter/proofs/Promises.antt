@@ -11,7 +11,7 @@ use borrow.Author.Tests.{le-leb, lt-leb, leb-true}
 use Rattle.law.specs.Numbers.{most_hours, most_cells}
 use Rattle.law.specs.Words.{need, over}
 use Rattle.law.proofs.Tabled.{table_is}
-use Rattle.rules.specs.declared.Answer.{Answer}
+use Rattle.rules.specs.Refusals.{Answer}
 use Rattle.rules.specs.Outfalls.{Line}
 use Rattle.rules.specs.Judge.{refuse}
 use Rattle.rules.specs.Row.{rows_of, cells, concentration_cells, flow_cells}

@@ -8,9 +8,11 @@ use Rattle.std.specs.Prelude.{Option, Some, None, Result, Ok, Err, unwrap_or}
 use Rattle.law.specs.Words.{need, pick}
 use Rattle.rules.specs.declared.Refusal.{Refusal}
 use Rattle.rules.specs.declared.Refusal.TheVariants.{BadRecord, OutOfPlace, BadReading, StoppedHour, NoBatch, NoEntry, FewRowCells, FewWorkCells, TotalTooLarge, TooManyHours, UnlawfulPanel, TooLong, HeadField, MaskField, FuelField, PastPeriod, NoMethod, BadLine, OutOfRange, NoRoom, RowCount}
+use Rattle.rules.specs.declared.Method.{Method}
+use Rattle.rules.specs.declared.Method.TheVariants.{Automatic, Manual, Balance, Coefficient}
 use Rattle.rules.specs.declared.Refused.{Refused}
 use Rattle.rules.specs.declared.Account.{Account}
-use Rattle.rules.specs.Refusals.{Fault, number_of, fault_in, told, Answer, answered}
+use Rattle.rules.specs.Refusals.{method_number, Fault, number_of, fault_in, told, Answer, answered}
 use Rattle.rules.specs.Judge.{fine, first}
 use Rattle.rules.proofs.Faults.{first_fine}
 
@@ -119,3 +121,18 @@ told_only (Ok a) (Ok b) e = refl
 told_only (Ok a) (Err g) e = absurd (refused_not g (sym e))
 told_only (Err f) (Ok b) e = absurd (refused_not f e)
 told_only (Err f) (Err g) e = ap Err (fault_only f g e)
+
+-- ---- a method is read back from its number
+method_from : ℕ → Option Method
+method_from n = pick (eqb n 1) (Some Automatic) (pick (eqb n 2) (Some Manual) (pick (eqb n 3) (Some Balance) (pick (eqb n 4) (Some Coefficient) None)))
+
+method_back : (m : Option Method) → method_from (method_number m) ≡ m
+unfolding method_from pick
+method_back (Some Automatic) = refl
+method_back (Some Manual) = refl
+method_back (Some Balance) = refl
+method_back (Some Coefficient) = refl
+method_back None = refl
+
+pub method_only : (m n : Option Method) → method_number m ≡ method_number n → m ≡ n
+method_only m n e = sym (method_back m) ∙ ap method_from e ∙ method_back n

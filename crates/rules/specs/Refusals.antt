@@ -3,6 +3,8 @@ use Rattle.std.specs.Prelude.{ℕ, List, Option, Some, None, Result, Ok, Err, re
 use Rattle.law.specs.Numbers.{total_cells}
 use Rattle.rules.specs.declared.Refusal.{Refusal}
 use Rattle.rules.specs.declared.Refusal.TheVariants.{BadRecord, OutOfPlace, BadReading, StoppedHour, NoBatch, NoEntry, FewRowCells, FewWorkCells, TotalTooLarge, TooManyHours, UnlawfulPanel, TooLong, HeadField, MaskField, FuelField, PastPeriod, NoMethod, BadLine, OutOfRange, NoRoom, RowCount}
+use Rattle.rules.specs.declared.Method.{Method}
+use Rattle.rules.specs.declared.Method.TheVariants.{Automatic, Manual, Balance, Coefficient}
 use Rattle.rules.specs.declared.Refused.{Refused}
 use Rattle.rules.specs.declared.Account.{Account}
 
@@ -41,6 +43,14 @@ number_of BadLine = 19
 number_of OutOfRange = 20
 number_of NoRoom = 21
 number_of RowCount = 22
+
+-- "automatic 1, manual 2, balance 3, coefficient 4", and 0 where no method is left
+abbrev pub method_number : Option Method → ℕ
+method_number (Some Automatic) = 1
+method_number (Some Manual) = 2
+method_number (Some Balance) = 3
+method_number (Some Coefficient) = 4
+method_number None = 0
 
 -- a refusal at its place, on paper
 unfoldable pub fault_in : Refused → Fault

@@ -1,6 +1,6 @@
 -- What stands in a printed line, as bytes: the line of a refusal, that of the totals, and what is said of a filing.
 use Rattle.std.specs.Prelude.{ℕ, List, [], ◌∷◌, ◌++◌}
-use Rattle.rules.specs.declared.Fault.{Fault}
+use Rattle.rules.specs.Refusals.{Fault}
 use Rattle.rules.specs.Judge.{refuse}
 use Rattle.text.specs.declared.Said.{Said}
 use Rattle.text.specs.declared.Said.TheVariants.{Refused, Wrong, Yes}

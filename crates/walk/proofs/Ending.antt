@@ -26,7 +26,7 @@ use Rattle.rules.specs.Grams.{hourly, amount, automatic, manual, sulphur_of, gra
 use Rattle.rules.specs.Measured.{of_stack}
 use Rattle.rules.specs.Row.{stack_row, row_of, rows_of, total_of, totals_of, stack_held, held, cells, concentration_cells, flow_cells}
 use Rattle.rules.specs.Walk.{Between, Inside, view_of}
-use Rattle.rules.proofs.Method.{grams-automatic, grams-manual, grams-fuel}
+use Rattle.rules.proofs.Methods.{grams-automatic, grams-manual, grams-fuel}
 use Rattle.answers.proofs.Rows.{rows_long}
 use Rattle.fills.specs.Gaps.{filled_cells}
 use Rattle.fills.specs.Weights.{products}

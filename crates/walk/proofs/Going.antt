@@ -11,7 +11,7 @@ use Rattle.law.specs.Numbers.{most_days, most_hours, most_cells, total_cells}
 use Rattle.law.specs.Words.{need, pick, sum_of, table}
 use Rattle.law.proofs.Over.{part-whole}
 use Rattle.law.proofs.Tabled.{table_is}
-use Rattle.rules.specs.declared.Fault.{Fault}
+use Rattle.rules.specs.Refusals.{Fault}
 use Rattle.rules.specs.declared.Record.{Record}
 use Rattle.rules.specs.declared.Record.TheVariants.{Bad}
 use Rattle.rules.specs.declared.View.{View}

@@ -2,7 +2,7 @@
 use mathlib.Core.Path.{◌≡◌, sym, ap₂, ◌∙◌}
 use mathlib.Core.List.{List}
 use Prim.Native.Nat.{ℕ}
-use Rattle.rules.specs.declared.Answer.{Answer}
+use Rattle.rules.specs.Refusals.{Answer}
 use Rattle.rules.specs.Account.{Promise}
 use Rattle.answers.proofs.Only.{promise_only}
 use Rattle.walk.specs.declared.Walked.{Walked}

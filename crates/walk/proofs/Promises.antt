@@ -9,7 +9,7 @@ use lib.Dec.{leb}
 use borrow.Author.Tests.{le-leb, lt-leb}
 use Rattle.law.specs.Numbers.{most_hours, row_cells, most_cells}
 use Rattle.law.specs.Words.{need, over}
-use Rattle.rules.specs.declared.Answer.{Answer}
+use Rattle.rules.specs.Refusals.{Answer}
 use Rattle.rules.specs.Judge.{refuse}
 use Rattle.rules.specs.Row.{cells}
 use Rattle.rules.specs.Account.{acceptance, rows_fit, work_fits, answer_from, answer_of, rows_from, rows_after, cells_from, work_after, Promise}

@@ -43,7 +43,7 @@ use Rattle.walk.proofs.Standing.{kept-head, kept-day, kept-enforcement, kept-pla
 use Rattle.walk.proofs.Ending.{method-is, cells-most, kept-end}
 use Rattle.walk.proofs.Masks.{states_kept, first-kept, found_kept}
 use Rattle.walk.proofs.Steps.{surveyed-most}
-use Rattle.rules.proofs.Method.{manual-surveyed, outfall_surveyed}
+use Rattle.rules.proofs.Methods.{manual-surveyed, outfall_surveyed}
 use Rattle.hours.specs.Marks.{found_by}
 use Rattle.line.specs.Days.{lacks_on, first_lacking}
 use Rattle.walk.proofs.Daily.{found_within, running-most, missing_most}

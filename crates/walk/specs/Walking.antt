@@ -1,8 +1,7 @@
 -- What the walk and its steps promise each other.
 use Rattle.std.specs.Prelude.{ℕ, ◌+◌, ◌*◌, ◌<◌, ◌≤◌, List, ◌++◌, ◌≡◌, length, drop}
 use Rattle.law.specs.Numbers.{most_lines, row_cells}
-use Rattle.rules.specs.declared.Answer.{Answer}
-use Rattle.rules.specs.declared.Fault.{Fault}
+use Rattle.rules.specs.Refusals.{Fault, Answer}
 use Rattle.rules.specs.declared.Record.{Record}
 use Rattle.rules.specs.declared.View.{View}
 use Rattle.rules.specs.Records.{record_in, records_from}

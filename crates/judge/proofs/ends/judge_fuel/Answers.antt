@@ -4,7 +4,7 @@ use mathlib.Core.Path.{◌≡◌, refl, ap, ◌∙◌}
 use native.Mathlib.Omega.{arith}
 use lib.Dec.{leb}
 use Rattle.law.specs.Words.{pick}
-use Rattle.rules.specs.declared.Fault.{Fault}
+use Rattle.rules.specs.Refusals.{Fault}
 use Rattle.law.proofs.Tests.{pick_le, pick_not_le}
 use Rattle.rules.specs.OnPaper.{OnPaper}
 use Rattle.rules.specs.Judge.{fine, blamed, judge_entry, judge_fuel}
