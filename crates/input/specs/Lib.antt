@@ -1,3 +1,4 @@
--- The input of a program: what one read is, and what a call that reads promises.
+-- The input of a program: what one read is, and what a call that reads answers and promises.
 pub mod Asked
+pub mod Got
 pub mod Reads

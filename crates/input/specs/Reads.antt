@@ -7,7 +7,7 @@
 -- Not said: which bytes standard input has, since nothing is known of what the system hands out.
 use Rattle.std.specs.Prelude.{ℕ, ◌+◌, ◌≤◌, ◌<◌, Bool, true, false, List, [], ◌++◌, length, take, drop, Option, Ok, Err}
 use Rattle.std.specs.declared.io.Error.{Error}
-use Rattle.input.specs.declared.Got.{Got}
+use Rattle.input.specs.Got.{Got}
 use Rattle.input.specs.Asked.{Asked}
 
 module _ {R : Type 0} (remaining : R → Option (List ℕ)) (piece : ℕ) where

@@ -5,15 +5,15 @@ ghost use Rattle.std.specs.Prelude.{◌<◌, ◌≡◌, false, length, take};
 ghost use Rattle.std.specs.Io.KnownBytes.{Consumes, IsAtEnd};
 ghost use Rattle.input.specs.Asked.{room, Asked};
 ghost use Rattle.input.specs.Reads.{Delivered};
+ghost use Rattle.input.specs.Got.{got};
 
 use std::io;
 use std::io::Read;
 
-// How many bytes there are, and whether a read failed: a read that fails is not the end of the input.
-#[derive(Clone, Copy)]
-pub struct Got {
+// A read that failed, which is not the end of the input, and how many bytes had come before it.
+#[derive(Clone, Copy, Debug, PartialEq, Eq)]
+pub struct ReadFailed {
     pub count: usize,
-    pub failed: bool,
 }
 
 // How many of the bytes that are left a read is lent.
@@ -21,10 +21,7 @@ fn room_of(piece: usize, left: usize) -> usize
     requires { 0 < left }
     ensures { result ≡ room piece left }
 {
-    if piece == 0 {
-        return 1;
-    }
-    if piece < left { piece } else { left }
+    piece.max(1).min(left)
 }
 
 // One read, into the part behind the bytes that came before. No other call of `read` stands in this crate.
@@ -38,28 +35,21 @@ fn read_piece<R: Read>(from: &mut R, buf: &mut [u8], at: usize, piece: usize) ->
 
 // Reads until the input ends, the buffer is full or a read fails, at most `piece` bytes at a time: a pipe hands out less than it was asked for. A read that a
 // signal interrupts has failed like any other.
-pub fn read_pieces<R: Read>(from: &mut R, buf: &mut [u8], piece: usize) -> Got
-    ensures delivered { Delivered R.remaining piece from.old from.new buf.old buf.new result }
-    ensures consumed { Consumes (R.remaining from.old) (R.remaining from.new) (take result.count buf.new) }
-    ensures ended { result.failed ≡ false → result.count < length buf.new → IsAtEnd (R.remaining from.new) }
+pub fn read_pieces<R: Read>(from: &mut R, buf: &mut [u8], piece: usize) -> Result<usize, ReadFailed>
+    ensures delivered { Delivered R.remaining piece from.old from.new buf.old buf.new (got result) }
+    ensures consumed { Consumes (R.remaining from.old) (R.remaining from.new) (take (got result).count buf.new) }
+    ensures ended { (got result).failed ≡ false → (got result).count < length buf.new → IsAtEnd (R.remaining from.new) }
 {
-    let mut count: usize = 0;
+    let mut count = 0;
+    // Kept: a `while`. How many reads there are is the reader's to say, so a `for` is no plainer.
     while count < buf.len() {
         match read_piece(from, buf, count, piece) {
             Ok(0) => break,
             Ok(n) => count += n,
-            Err(_) => {
-                return Got {
-                    count,
-                    failed: true,
-                };
-            }
+            Err(_) => return Err(ReadFailed { count }),
         }
     }
-    Got {
-        count,
-        failed: false,
-    }
+    Ok(count)
 }
 
 #[cfg(test)]

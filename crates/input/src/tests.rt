@@ -1,7 +1,7 @@
 // Reads from readers that are made up: over a slice, a byte at a time, and one that fails in mid-stream.
 ghost use Rattle.std.specs.Prelude.{Some};
 
-use crate::read_pieces;
+use crate::{ReadFailed, read_pieces};
 use std::io;
 use std::io::Read;
 
@@ -51,19 +51,19 @@ fn reads_to_the_end_or_until_the_buffer_is_full(rt: HostRuntime) {
         let mut longer = [b'.'; 7];
         let mut all: &[u8] = b"hello";
         let got = read_pieces(&mut all, &mut longer, piece);
-        assert_eq!(rt; (got.count, got.failed), (5, false), "in pieces of {piece}");
+        assert_eq!(rt; got, Ok(5), "in pieces of {piece}");
         assert_eq!(rt; &longer[..], &b"hello.."[..]);
         assert_eq!(rt; all.len(), 0);
         let mut shorter = [b'.'; 4];
         let mut all: &[u8] = b"hello";
         let got = read_pieces(&mut all, &mut shorter, piece);
-        assert_eq!(rt; (got.count, got.failed), (4, false), "in pieces of {piece}");
+        assert_eq!(rt; got, Ok(4), "in pieces of {piece}");
         assert_eq!(rt; &shorter[..], &b"hell"[..]);
         assert_eq!(rt; all, &b"o"[..]);
         let mut drip = Drip { rest: b"hello" };
         let mut longer = [b'.'; 7];
         let got = read_pieces(&mut drip, &mut longer, piece);
-        assert_eq!(rt; (got.count, got.failed), (5, false), "in pieces of {piece}");
+        assert_eq!(rt; got, Ok(5), "in pieces of {piece}");
         assert_eq!(rt; &longer[..], &b"hello.."[..]);
     }
 }
@@ -72,8 +72,8 @@ fn reads_to_the_end_or_until_the_buffer_is_full(rt: HostRuntime) {
 fn a_failure_is_no_end(rt: HostRuntime) {
     let mut buf = [b'.'; 5];
     let got = read_pieces(&mut Broken { left: 3 }, &mut buf, 2);
-    assert_eq!(rt; (got.count, got.failed), (3, true));
+    assert_eq!(rt; got, Err(ReadFailed { count: 3 }));
     assert_eq!(rt; &buf[..], &[7, 7, 7, b'.', b'.'][..]);
     let got = read_pieces(&mut Broken { left: 5 }, &mut buf, 2);
-    assert_eq!(rt; (got.count, got.failed), (5, false));
+    assert_eq!(rt; got, Ok(5));
 }
