@@ -1,18 +1,38 @@
 -- Rows written one behind the other. Assumes nothing.
-use mathlib.Core.Path.{◌≡◌, refl, ap, ◌∙◌, subst}
-use mathlib.Core.List.{List, ◌++◌}
-use Prim.Native.Nat.{ℕ, zero, suc, ◌+◌, ◌-◌, ◌*◌, ◌<◌, ◌≤◌}
+use mathlib.Core.Path.{◌≡◌, refl, sym, ap, ◌∙◌}
+use mathlib.Core.List.{List, ◌∷◌, ◌++◌, append_assoc, append-nil}
+use Prim.Native.Nat.{ℕ, zero, suc, ◌+◌, ◌*◌, ◌/◌, ◌≤◌}
 use native.Mathlib.Omega.{arith}
 use lib.ListN.{length, take, drop, length-append, length-take}
+use lib.Seq.{drop-drop}
+use Rattle.std.specs.Prelude.{flat_map}
+use Rattle.std.specs.Simd.{first_chunks}
 use Rattle.text.specs.Numbers.{spaced}
-use Rattle.law.specs.Written.{Wrote}
-use Rattle.law.proofs.Wrote.{wrote_none, wrote_on, wrote_as}
 use Rattle.text.proofs.Spaced.{spaced-most}
 use Rattle.text.specs.Text.{rows_text}
+use Rattle.law.specs.Written.{Wrote}
+use Rattle.law.proofs.Wrote.{wrote_as}
 
--- a row as a part of the rows
-part-is : (rows : List ℕ) (i : ℕ) → take (7 * i + 7 - 7 * i) (drop (7 * i) rows) ≡ take 7 (drop (7 * i) rows)
-part-is rows i = let e : 7 * i + 7 - 7 * i ≡ 7 = omega arith in ap (λ (k : ℕ). take k (drop (7 * i) rows)) e
+-- the first n of a slice's rows are those of its first n
+first_rows : (n m : ℕ) (cells : List ℕ) → n ≤ m → take n (first_chunks 7 m cells) ≡ first_chunks 7 n cells
+first_rows zero m cells l = refl
+first_rows (suc n) zero cells l = absurd (omega arith)
+first_rows (suc n) (suc m) cells l = ap (λ (rows : List (List ℕ)). take 7 cells ∷ rows) (first_rows n m (drop 7 cells) (omega arith))
+
+-- the last of them
+last_row : (n : ℕ) (cells : List ℕ) → flat_map spaced (first_chunks 7 (suc n) cells) ≡ flat_map spaced (first_chunks 7 n cells) ++ spaced (take 7 (drop (7 * n) cells))
+last_row zero cells = append-nil (spaced (take 7 cells))
+last_row (suc n) cells =
+    let e : 7 + 7 * n ≡ 7 * suc n = omega arith in
+    let next = flat_map spaced (first_chunks 7 n (drop 7 cells)) in
+    ap (λ (t : List ℕ). spaced (take 7 cells) ++ t) (last_row n (drop 7 cells))
+    ∙ sym (append_assoc (spaced (take 7 cells)) next (spaced (take 7 (drop (7 * n) (drop 7 cells)))))
+    ∙ ap (λ (c : List ℕ). (spaced (take 7 cells) ++ next) ++ spaced (take 7 c)) (drop-drop (7 * n) 7 cells ∙ ap (λ (k : ℕ). drop k cells) e)
+
+rows_by : (n : ℕ) (cells : List ℕ) → flat_map spaced (first_chunks 7 n cells) ≡ rows_text cells n
+unfolding rows_text
+rows_by zero cells = refl
+rows_by (suc n) cells = last_row n cells ∙ ap (λ (t : List ℕ). t ++ spaced (take 7 (drop (7 * n) cells))) (rows_by n cells)
 
 -- 21 bytes for each of seven numbers and one more
 pub rows_most : (rows : List ℕ) (n : ℕ) → length (rows_text rows n) ≤ 148 * n
@@ -22,36 +42,16 @@ rows_most rows (suc n) =
     let cells = take 7 (drop (7 * n) rows) in
     omega (arith, length-append (rows_text rows n) (spaced cells), rows_most rows n, spaced-most cells, length-take 7 (drop (7 * n) rows))
 
--- a loop over the rows: those of the first i are written
-pub record Lining (old rows text : List ℕ) (end i : ℕ) : Type 0 where
-  pub wrote : Wrote old 0 (rows_text rows i) text end
-  pub long : length text ≡ length old
+-- so that the texts of a slice's first rows are these, and of at most 48 rows end here
+module _ (old cells text : List ℕ) (chunks : List (List ℕ)) (n end : ℕ) (e : chunks ≡ first_chunks 7 (length cells / 7) cells) (w : Wrote old 0 (flat_map spaced (take n chunks)) text end) where
+  pub rows_wrote : 7 * n ≤ length cells → Wrote old 0 (rows_text cells n) text end
+  rows_wrote l =
+      wrote_as old text _ _ 0 end
+      (ap (λ (rows : List (List ℕ)). flat_map spaced (take n rows)) e ∙ ap (flat_map spaced) (first_rows n (length cells / 7) cells (omega (arith, l))) ∙ rows_by n cells) w
 
-pub lining_start : (old rows : List ℕ) → Lining old rows old 0 0
-unfolding rows_text
-lining_start old rows = record { wrote = wrote_none old 0; long = refl }
+  pub rows_end : 7 * n ≤ length cells → n ≤ 48 → end ≤ 7_104
+  rows_end l f = omega (arith, f, (rows_wrote l).ends, rows_most cells n)
 
--- and there is room for seven numbers more
-pub lining_room : (old rows text : List ℕ) (end i n many : ℕ) → Lining old rows text end i → i < n → 148 * n ≤ length old → many ≡ 7 → (0 < many) × (end + 21 * many ≤ length text)
-lining_room old rows text end i n many p l k seven = (omega arith, omega (arith, p.wrote.ends, p.long, rows_most rows i))
-
-pub lining_on : (old rows text new : List ℕ) (end r i : ℕ) → Lining old rows text end i → length new ≡ length text
-    → Wrote text end (spaced (take (7 * i + 7 - 7 * i) (drop (7 * i) rows))) new r
-    → Lining old rows new r (i + 1)
-unfolding rows_text
-lining_on old rows text new end r i p n w =
-    let cells = take (7 * i + 7 - 7 * i) (drop (7 * i) rows) in
-    let one : suc i ≡ i + 1 = omega arith in
-    record {
-      wrote =
-          wrote_as old new (rows_text rows i ++ spaced cells) (rows_text rows (i + 1)) 0 r (ap (λ (t : List ℕ). rows_text rows i ++ spaced t) (part-is rows i) ∙ ap (rows_text rows) one)
-          (wrote_on old text new (rows_text rows i) (spaced cells) 0 end r p.wrote w);
-      long = n ∙ p.long;
-    }
-
-pub lining_done : (old rows text : List ℕ) (end i n : ℕ) → Lining old rows text end i → i ≡ n → Wrote old 0 (rows_text rows n) text end
-lining_done old rows text end i n p e = subst (λ (k : ℕ). Wrote old 0 (rows_text rows k) text end) e p.wrote
-
--- at most 48 rows end here
-pub rows_end : (old rows text : List ℕ) (end n : ℕ) → Wrote old 0 (rows_text rows n) text end → n ≤ 48 → end ≤ 7_104
-rows_end old rows text end n w l = omega (arith, w.ends, rows_most rows n)
+-- one row ends at most 148 bytes further on
+pub row_ends : (row old new : List ℕ) (from to : ℕ) → length row ≡ 7 → Wrote old from (spaced row) new to → to ≤ from + 148
+row_ends row old new from to l w = omega (arith, w.ends, spaced-most row, l)

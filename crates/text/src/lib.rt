@@ -1,12 +1,11 @@
 // The texts that the programs print, written into a lent buffer: a refusal, rows and totals, what is said of a filing.
 #![tactic(auto)]
 
-ghost use Rattle.std.specs.Prelude.{◌+◌, ◌*◌, ◌≤◌, [], ◌∷◌, ◌++◌, length};
-ghost use Rattle.law.specs.Numbers.{row_cells};
+ghost use Rattle.std.specs.Prelude.{◌+◌, ◌*◌, ◌<◌, ◌≤◌, [], ◌∷◌, ◌++◌, flat_map, length};
 ghost use Rattle.law.specs.Written.{Wrote};
 ghost use Rattle.text.specs.Line.{said_line};
 ghost use Rattle.text.specs.Numbers.{spaced};
-ghost use Rattle.text.specs.Text.{Text, rows_text, stated_lines};
+ghost use Rattle.text.specs.Text.{Text, stated_lines};
 
 use crate::writing::{put_bytes, put_spaced};
 
@@ -15,8 +14,11 @@ mod writing;
 // No text is longer: 48 rows of seven numbers, and a line of five.
 const LONGEST: usize = 8192;
 
+// No answer has more rows.
+const MOST_ROWS: usize = 48;
+
 // A line that is said of a file or of a filing.
-#[derive(Clone, Copy)]
+#[derive(Clone, Copy, Debug, PartialEq, Eq)]
 pub enum Said {
     Refused(u64, u64),
     Wrong(u64, u64),
@@ -25,12 +27,11 @@ pub enum Said {
 
 // A word, two numbers and a line feed, at the start; a number is at most 20 bytes long.
 fn put_word(text: &mut [u8], word: &[u8], first: u64, second: u64) -> usize
-    requires { length word.now + 42 ≤ length text.old }
+    requires { length word.now + 42 < length text.old }
     ensures { Wrote text.old 0 (word.now ++ spaced (first ∷ second ∷ [])) text.new result }
 {
     let at = put_bytes(text, 0, word);
-    let cells = [first, second];
-    put_spaced(text, at, &cells)
+    put_spaced(text, at, &[first, second])
 }
 
 // "refused N PLACE", "wrong ROW FIELD" or "yes"; 0 where the buffer could be too short.
@@ -47,18 +48,14 @@ pub fn said_text(text: &mut [u8], s: Said) -> usize
     }
 }
 
-// A line for each of the first n rows; a row of seven numbers is at most 148 bytes long.
-fn put_rows(text: &mut [u8], rows: &[u64], n: usize) -> usize
-    requires { (row_cells * n ≤ length rows.now) × (148 * n ≤ length text.old) }
-    ensures { Wrote text.old 0 (rows_text rows.now n) text.new result }
+// A line for each row; a row of seven numbers is at most 148 bytes long.
+fn put_rows(text: &mut [u8], rows: &[[u64; 7]]) -> usize
+    requires { 148 * length rows.now ≤ length text.old }
+    ensures { Wrote text.old 0 (flat_map spaced rows.now) text.new result }
 {
     let mut end: usize = 0;
-    let mut i: usize = 0;
-    while i < n {
-        let from = 7 * i;
-        let to = from + 7;
-        end = put_spaced(text, end, &rows[from..to]);
-        i += 1;
+    for row in rows {
+        end = put_spaced(text, end, row);
     }
     end
 }
@@ -67,16 +64,11 @@ fn put_rows(text: &mut [u8], rows: &[u64], n: usize) -> usize
 pub fn stated_text(text: &mut [u8], rows: &[u64], n: usize, totals: &[u64; 5]) -> usize
     ensures { Text (stated_lines rows.now n totals.now) text.old text.new result }
 {
-    if text.len() < LONGEST {
+    if text.len() < LONGEST || n > MOST_ROWS || rows.len() < 7 * n {
         return 0;
     }
-    if n > 48 {
-        return 0;
-    }
-    if rows.len() < 7 * n {
-        return 0;
-    }
-    let end = put_rows(text, rows, n);
+    let (rows, _) = rows.as_chunks::<7>();
+    let end = put_rows(text, &rows[..n]);
     let at = put_bytes(text, end, b"total ");
     put_spaced(text, at, totals)
 }

@@ -1,4 +1,5 @@
 // Bytes and numbers written into a lent buffer, each behind the last, where there is room.
+// Kept: no `write!` of a Display: it promises its text only where it answers Ok, and not that it does so where there is room; `said_text` always writes.
 ghost use Rattle.std.specs.Prelude.{[], ◌∷◌, ◌++◌, ◌+◌, ◌*◌, ◌<◌, ◌≤◌, length};
 ghost use Rattle.text.specs.Numbers.{decimal, spaced};
 ghost use Rattle.law.specs.Written.{Wrote};
@@ -8,12 +9,9 @@ pub fn put_bytes(text: &mut [u8], at: usize, bytes: &[u8]) -> usize
     requires { at + length bytes.now ≤ length text.old }
     ensures { Wrote text.old at bytes.now text.new result }
 {
-    let mut i: usize = 0;
-    while i < bytes.len() {
-        text[at + i] = bytes[i];
-        i += 1;
-    }
-    at + bytes.len()
+    let end = at + bytes.len();
+    text[at..end].copy_from_slice(bytes);
+    end
 }
 
 // A number in decimal, and the byte behind it.
@@ -21,24 +19,23 @@ fn put_number(text: &mut [u8], at: usize, n: u64, after: u8) -> usize
     requires { at + 21 ≤ length text.old }
     ensures { Wrote text.old at (decimal n ++ (after ∷ [])) text.new result }
 {
-    let mut digits = [0u8; 20];
-    let k = io::decimal(n, &mut digits);
-    let end = put_bytes(text, at, &digits[0..k]);
+    let mut digits = itoa::Buffer::new();
+    let end = put_bytes(text, at, digits.format(n).as_bytes());
     text[end] = after;
     end + 1
 }
 
 // Numbers with a space between two, and a line feed.
 pub fn put_spaced(text: &mut [u8], at: usize, cells: &[u64]) -> usize
-    requires { (0 < length cells.now) × (at + 21 * length cells.now ≤ length text.old) }
+    requires { at + 21 * length cells.now < length text.old }
     ensures { Wrote text.old at (spaced cells.now) text.new result }
 {
-    let last = cells.len() - 1;
+    let Some((last, others)) = cells.split_last() else {
+        return put_bytes(text, at, b"\n");
+    };
     let mut end = at;
-    let mut i: usize = 0;
-    while i < last {
-        end = put_number(text, end, cells[i], 32);
-        i += 1;
+    for n in others {
+        end = put_number(text, end, *n, b' ');
     }
-    put_number(text, end, cells[last], 10)
+    put_number(text, end, *last, b'\n')
 }

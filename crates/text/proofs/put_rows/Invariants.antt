@@ -1,10 +1,9 @@
--- `text::put_rows` meets its contract. Assumes nothing.
-use Prim.Native.Nat.{◌-◌, ◌≤◌}
-use Rattle.text.proofs.Rows.{Lining}
+-- `text::put_rows` meets its contract: after i rows their texts stand at the start. Assumes nothing.
+use Rattle.std.proofs.Common.{◌*◌, ◌≤◌, take}
+use Rattle.std.specs.Prelude.{flat_map}
+use Rattle.law.specs.Written.{Wrote}
+use Rattle.text.specs.Numbers.{spaced}
 use Rattle.text.proofs.put_rows.Given as goal
 
-abbrev pub invariant-loop-i : goal.invariant-loop-i
-invariant-loop-i l = Lining l.initial.text l.rows l.text l.end l.i × (l.i ≤ l.n)
-
-abbrev pub decreases-loop-i : goal.decreases-loop-i
-decreases-loop-i l = l.n - l.i
+abbrev pub invariant-loop-row : goal.invariant-loop-row
+invariant-loop-row l = record { wrote : Wrote l.initial.text 0 (flat_map spaced (take l.row-index l.rows)) l.text l.end; below : l.end ≤ 148 * l.row-index }

@@ -1,31 +1,21 @@
--- `text::writing::put_spaced` meets its contract: each number is written with the byte behind it. Assumes nothing.
-use mathlib.Core.Path.{refl, ◌∙◌}
+-- `text::writing::put_spaced` meets its contract: no numbers are a line feed, and any others end in one behind the last. Assumes nothing.
+use Prim.Native.Nat.{ℕ}
 use native.Mathlib.Omega.{arith}
-use Rattle.text.proofs.Spaced.{spacing_start, spacing_on, spacing_done}
+use lib.ListN.{length-append}
+use Rattle.std.proofs.Common.{rules}
+use Rattle.text.proofs.Numbers.{decimal-most}
+use Rattle.text.proofs.Bytes.{wrote_more}
+use Rattle.text.proofs.Spaced.{with_space, wrote_no_cells, wrote_cells}
 use Rattle.text.proofs.writing.put_spaced.Goals as goal
 
-pub loop-i-init : goal.loop-i-init
-loop-i-init c = spacing_start _ _ _ c.requires.0
+pub returns-in_default : goal.returns-in_default
+returns-in_default c = wrote_no_cells _ _ _ _ _ (search rules) c.put_bytes.ensures
 
-pub put_number-end-requires : goal.put_number-end-requires
-put_number-end-requires c =
-    omega (arith, c.loop-i.invariant.below, c.loop-i.invariant.long, c.requires.1, c.loop-i-test.true)
-
-pub loop-i-preserved : goal.loop-i-preserved
-loop-i-preserved c =
-    spacing_on _ _ _ _ _ _ _ _ c.loop-i.invariant c.loop-i-test.true c.put_number-end.auto.text c.put_number-end.ensures
-
-pub bounds-cells-last : goal.bounds-cells-last
-bounds-cells-last c = omega (arith, c.loop-i.invariant.most)
-
-pub put_number-requires : goal.put_number-requires
-put_number-requires c =
-    omega (arith, c.loop-i.invariant.below, c.loop-i.invariant.most, c.loop-i.invariant.long, c.requires.1, c.loop-i-test.false)
-
-pub shape_of-text : goal.shape_of-text
-shape_of-text c =
-    c.put_number.auto.text ∙ c.loop-i.invariant.long
+pub loop-n-preserved : goal.loop-n-preserved
+loop-n-preserved c = record {
+  wrote = wrote_more with_space _ _ 0 _ _ _ _ _ _ c.loop-n-test.true c.loop-n.invariant.wrote c.put_number-end.ensures;
+  below = omega (arith, c.put_number-end.ensures.ends, c.loop-n.invariant.below, length-append {A = ℕ}, decimal-most);
+}
 
 pub returns : goal.returns
-returns c =
-    spacing_done _ _ _ _ _ _ _ _ _ c.loop-i.invariant c.loop-i-test.false refl c.put_number.ensures
+returns c = wrote_cells _ _ _ _ _ _ _ _ _ _ (search rules) c.loop-n-test.false c.loop-n.invariant.wrote c.put_number.ensures

@@ -1,10 +1,10 @@
--- `text::writing::put_spaced` meets its contract: each number is written with the byte behind it. Assumes nothing.
-use Prim.Native.Nat.{◌-◌}
-use Rattle.text.proofs.Spaced.{Spacing}
+-- `text::writing::put_spaced` meets its contract: each number but the last is written with a space behind it. Assumes nothing.
+use Rattle.std.proofs.Common.{◌+◌, ◌*◌, ◌≤◌, take}
+use Rattle.std.specs.Prelude.{flat_map}
+use Rattle.law.specs.Written.{Wrote}
+use Rattle.text.proofs.Spaced.{with_space}
 use Rattle.text.proofs.writing.put_spaced.Given as goal
 
-abbrev pub invariant-loop-i : goal.invariant-loop-i
-invariant-loop-i l = Spacing l.initial.text l.at l.cells l.text l.end l.i
-
-abbrev pub decreases-loop-i : goal.decreases-loop-i
-decreases-loop-i l = l.last - l.i
+abbrev pub invariant-loop-n : goal.invariant-loop-n
+invariant-loop-n l =
+    record { wrote : Wrote l.initial.text l.at (flat_map with_space (take l.n-index l.others)) l.text l.end; below : l.end ≤ l.at + 21 * l.n-index }
