@@ -5,14 +5,6 @@ pub mod NearestOnly
 pub mod Back
 pub mod Answer
 pub mod Computed
-pub mod Texts
-pub mod Only
 pub mod Digits
-pub mod Formed
-pub mod DayWritten
-pub mod Faults
-pub mod Judged
 pub mod Unmeasured
-pub mod Grammar
-pub mod Taking
-pub mod Bringing
+pub mod Formed
