@@ -8,3 +8,10 @@ pub mod Computed
 pub mod Digits
 pub mod Unmeasured
 pub mod Formed
+pub mod Faults
+pub mod Judged
+pub mod Texts
+pub mod Only
+pub mod Grammar
+pub mod DayWritten
+pub mod Taking
