@@ -15,3 +15,4 @@ pub mod Only
 pub mod Grammar
 pub mod DayWritten
 pub mod Taking
+pub mod Bringing
