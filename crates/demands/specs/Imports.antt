@@ -6,7 +6,7 @@ use Rattle.rules.specs.{declared.Head.Head, declared.Pair.Pair, Records.Day, Rec
 use Rattle.rules.specs.declared.Record.TheVariants.{OfHead, OfDay}
 use Rattle.rules.specs.{Judge.judge, Judge.refuse, Lines.StackLine, Outfalls.OfStack, Walk.Between, Walk.view_of, Walk.Accepted, Walk.Refused, Walk.outcome}
 use Rattle.import.specs.Nearest.{Nearest}
-use Rattle.import.specs.declared.Imported.{Imported}
+use Rattle.import.specs.Import.{Imported}
 use Rattle.import.specs.Line.{state_of, concentration_of, flow_of}
 use Rattle.import.specs.Import.{day_bytes, line_from, days_of, Promise}
 
