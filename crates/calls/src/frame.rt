@@ -1,6 +1,4 @@
 // One frame: its header and its bytes read, its call made, its answer written.
-ghost use Rattle.std.specs.Prelude.{◌≤◌, length, IfSome};
-
 use crate::{account_call, check_call, filed_call, import_call, panel_call, survey_call};
 use std::io;
 use std::io::Read;
@@ -54,14 +52,12 @@ fn read_bytes<'a>(from: &mut impl Read, room: &'a mut [u8], n: usize) -> Option<
 }
 
 // The account's answer; none where more cells are to be lent than there are.
-fn account(
+fn account<'a>(
     from: &mut impl Read,
     numbers: [u32; 5],
     room: &mut [u8],
-    out: &mut [u8; LONGEST],
-) -> Option<usize>
-    ensures { IfSome result (λ n. n ≤ length out.new) }
-{
+    out: &'a mut [u8; LONGEST],
+) -> Option<&'a [u8]> {
     let [length, rows, concentrations, flows, seed] = numbers;
     let file = read_bytes(from, room, length as usize)?;
     let mut row_cells = [0; MOST_ROW_CELLS];
@@ -70,17 +66,20 @@ fn account(
     let rows = row_cells.get_mut(..rows as usize)?;
     let concentrations = concentration_cells.get_mut(..concentrations as usize)?;
     let flows = flow_cells.get_mut(..flows as usize)?;
-    Some(account_call::answer(file, rows, concentrations, flows, seed, out))
+    let n = account_call::answer(file, rows, concentrations, flows, seed, out);
+    Some(&out[..n])
 }
 
 // The answer of a panel's hour.
-fn panel_hour(from: &mut impl Read, numbers: [u32; 5], out: &mut [u8; LONGEST]) -> Option<usize>
-    ensures { IfSome result (λ n. n ≤ length out.new) }
-{
+fn panel_hour<'a>(
+    from: &mut impl Read,
+    numbers: [u32; 5],
+    out: &'a mut [u8; LONGEST],
+) -> Option<&'a [u8]> {
     let [hours, missing, kind, concentration, flow] = numbers;
     let mut total = [0; 8];
     read_bytes(from, &mut total, 8)?;
-    Some(panel_call::answer(
+    let n = panel_call::answer(
         u64::from_le_bytes(total),
         hours,
         missing,
@@ -88,82 +87,77 @@ fn panel_hour(from: &mut impl Read, numbers: [u32; 5], out: &mut [u8; LONGEST]) 
         concentration,
         flow,
         out,
-    ))
+    );
+    Some(&out[..n])
 }
 
 // The governing survey's answer.
-fn governing_survey(
+fn governing_survey<'a>(
     from: &mut impl Read,
     numbers: [u32; 5],
     room: &mut [u8],
-    out: &mut [u8; LONGEST],
-) -> Option<usize>
-    ensures { IfSome result (λ n. n ≤ length out.new) }
-{
+    out: &'a mut [u8; LONGEST],
+) -> Option<&'a [u8]> {
     let [enforcement, plant, hour, _, _] = numbers;
     let both = read_bytes(from, room, enforcement as usize + plant as usize)?;
     let (enforcement, plant) = both.split_at_checked(enforcement as usize)?;
     let hour = (hour % 65_536) as u16;
-    Some(survey_call::answer(enforcement, plant, hour, out))
+    let n = survey_call::answer(enforcement, plant, hour, out);
+    Some(&out[..n])
 }
 
 // The import's answer to a text; none where more bytes are to be lent than there are.
-fn import(
+fn import<'a>(
     from: &mut impl Read,
     numbers: [u32; 5],
     room: &mut [u8],
-    out: &mut [u8; LONGEST],
-) -> Option<usize>
-    ensures { IfSome result (λ n. n ≤ length out.new) }
-{
+    out: &'a mut [u8; LONGEST],
+) -> Option<&'a [u8]> {
     let [length, records, seed, _, _] = numbers;
     let text = read_bytes(from, room, length as usize)?;
     let mut record_bytes = [0; MOST_RECORDS];
     let records = record_bytes.get_mut(..records as usize)?;
-    Some(import_call::answer(text, records, seed, out))
+    let n = import_call::answer(text, records, seed, out);
+    Some(&out[..n])
 }
 
 // The check's answer to a file and the cells behind it; none where there are more row cells than room.
-fn check(
+fn check<'a>(
     from: &mut impl Read,
     numbers: [u32; 5],
     room: &mut [u8],
-    out: &mut [u8; LONGEST],
-) -> Option<usize>
-    ensures { IfSome result (λ n. n ≤ length out.new) }
-{
+    out: &'a mut [u8; LONGEST],
+) -> Option<&'a [u8]> {
     let [file, rows, _, _, _] = numbers;
     let both = read_bytes(from, room, file as usize + 8 * rows as usize + 40)?;
     let (file, cells) = both.split_at_checked(file as usize)?;
     let mut row_cells = [0; MOST_ROW_CELLS];
     let rows = row_cells.get_mut(..rows as usize)?;
-    Some(check_call::answer(file, cells, rows, out))
+    let n = check_call::answer(file, cells, rows, out);
+    Some(&out[..n])
 }
 
 // The line that `checker` prints of a file and a text.
-fn filed_text(
+fn filed_text<'a>(
     from: &mut impl Read,
     numbers: [u32; 5],
     room: &mut [u8],
-    out: &mut [u8; LONGEST],
-) -> Option<usize>
-    ensures { IfSome result (λ n. n ≤ length out.new) }
-{
+    out: &'a mut [u8; LONGEST],
+) -> Option<&'a [u8]> {
     let [file, text, _, _, _] = numbers;
     let both = read_bytes(from, room, file as usize + text as usize)?;
     let (file, text) = both.split_at_checked(file as usize)?;
-    Some(filed_call::answer(file, text, out))
+    let n = filed_call::answer(file, text, out);
+    Some(&out[..n])
 }
 
 // The answer by the call; none for an unknown one.
-fn answer(
+fn answer<'a>(
     from: &mut impl Read,
     header: &[u8; 24],
     room: &mut [u8],
-    out: &mut [u8; LONGEST],
-) -> Option<usize>
-    ensures { IfSome result (λ n. n ≤ length out.new) }
-{
+    out: &'a mut [u8; LONGEST],
+) -> Option<&'a [u8]> {
     let [call, a, b, c, d, e] = [0, 4, 8, 12, 16, 20].map(|at| field::u32_at(header, at));
     let numbers = [a, b, c, d, e];
     match Call::try_from(call).ok()? {
@@ -196,13 +190,13 @@ pub fn next(
         Ok(0) => return Ok(false),
         _ => return stop(err, b"calls: a header is cut short\n"),
     }
-    let Some(n) = answer(from, &header, room, out) else {
+    let Some(said) = answer(from, &header, room, out) else {
         return stop(
             err,
             b"calls: a frame is unknown, too large for its room or cut short\n",
         );
     };
-    if to.write_all(&out[..n]).is_err() {
+    if to.write_all(said).is_err() {
         return stop(err, b"calls: an answer could not be written\n");
     }
     Ok(true)
