@@ -1,5 +1,5 @@
 -- The answer of each call from what its face promises. Assumes nothing.
-use Rattle.std.proofs.Common.{◌≡◌, ℕ, ◌-◌, ◌≤◌, Bool, true, leb, List, [], ◌∷◌, ◌++◌, length, take, drop, replicate, sym, refl, ap, ◌∙◌, ap₂, arith, length-take, take_at, le-leb}
+use Rattle.std.proofs.Common.{◌≡◌, ℕ, ◌≤◌, Bool, true, leb, List, [], ◌∷◌, ◌++◌, length, take, drop, replicate, sym, refl, ap, ◌∙◌, ap₂, arith, length-take, take_at, le-leb}
 use lib.Ieee.{Float, binary32, binary64, of_bits}
 use Rattle.law.specs.Words.{need}
 use Rattle.law.specs.Written.{Wrote}
@@ -23,13 +23,12 @@ unfolding verdict_cells
 check_long file rows totals number answer' f = let p = checked file rows totals in sym (ap length f.answers ∙ verdict_long p.number p.values)
 
 -- the bytes of a text that stand at the start of a buffer long enough
-text_front : (bytes line line' : List ℕ) (k : ℕ) → 8_192 ≤ length line → Text bytes line line' k → take (k - 0) (drop 0 line') ≡ bytes
+text_front : (bytes line line' : List ℕ) (k : ℕ) → 8_192 ≤ length line → Text bytes line line' k → take k line' ≡ bytes
 unfolding need
 text_front bytes line line' k l t =
     let yes : leb 8_192 (length line) ≡ true = le-leb 8_192 (length line) l in
     let count : k ≡ length bytes = t.counts ∙ ap (λ (b : Bool). need 0 b (length bytes)) yes in
-    let n : k - 0 ≡ length bytes = omega (arith, count) in
-    ap₂ take n (t.says ∙ ap (λ (b : Bool). need line b (bytes ++ drop (length bytes) line)) yes) ∙ take_at bytes (drop (length bytes) line) (length bytes) refl
+    ap₂ take count (t.says ∙ ap (λ (b : Bool). need line b (bytes ++ drop (length bytes) line)) yes) ∙ take_at bytes (drop (length bytes) line) (length bytes) refl
 
 module _ (old new : List ℕ) (to : ℕ) where
   -- what is written fits
@@ -81,9 +80,9 @@ module _ (old new : List ℕ) (to : ℕ) where
 
   -- the line stands at the start of its buffer
   pub line_wrote : (file text line line' : List ℕ) (k : ℕ) → 8_192 ≤ length line → Text (said file text) line line' k
-      → Wrote old 0 (u32_bytes (length (take (k - 0) (drop 0 line'))) ++ take (k - 0) (drop 0 line')) new to → Answered (filed_bytes file text) old new to
+      → Wrote old 0 (u32_bytes (length (take k line')) ++ take k line') new to → Answered (filed_bytes file text) old new to
   unfolding filed_bytes
   line_wrote file text line line' k l t w =
       let counted : List ℕ → List ℕ = λ bytes. u32_bytes (length bytes) ++ bytes in
-      let front = take (k - 0) (drop 0 line') in
+      let front = take k line' in
       answered (counted front) (filed_bytes file text) (ap counted (text_front (said file text) line line' k l t)) w

@@ -1,3 +1,3 @@
--- Numbers written as bytes, floats by their patterns, and the answer of each call.
-pub mod Patterns
+-- Numbers written as bytes, and the answer of each call.
+pub mod Puts
 pub mod Answers

@@ -1,53 +1,54 @@
 // Numbers written into a lent buffer, little-endian, each behind the last.
-ghost use Rattle.std.specs.Prelude.{◌+◌, ◌*◌, ◌≤◌, length};
+ghost use Rattle.std.specs.Prelude.{◌≡◌, ℕ, List, ◌+◌, ◌*◌, ◌≤◌, length};
+ghost use Rattle.std.specs.List.{flat_map};
 ghost use Rattle.law.specs.Written.{Wrote};
-ghost use Rattle.field.specs.Bytes.{u32_bytes, u64_bytes, cells_bytes};
 
-// A number's four bytes, and the place behind them.
-pub fn put_u32(out: &mut [u8], at: usize, x: u32) -> usize
-    requires { at + 4 ≤ length out.old }
-    ensures { Wrote out.old at (u32_bytes x) out.new result }
-{
-    out[at] = (x % 256) as u8;
-    out[at + 1] = (x / 256 % 256) as u8;
-    out[at + 2] = (x / 256 / 256 % 256) as u8;
-    out[at + 3] = (x / 256 / 256 / 256 % 256) as u8;
-    at + 4
+// A number that is written as its bytes, the low one first.
+pub trait Little: Copy {
+    ghost bytes: { Self → List ℕ };
+
+    ghost width: { ℕ };
+
+    // A number's bytes, and the place behind them.
+    fn put(self, out: &mut [u8], at: usize) -> usize
+        requires { at + width ≤ length out.old }
+        ensures wrote { Wrote out.old at (bytes self) out.new result }
+        ensures ends { result ≡ at + width };
 }
 
-// A number's eight bytes, the low half first.
-pub fn put_u64(out: &mut [u8], at: usize, x: u64) -> usize
-    requires { at + 8 ≤ length out.old }
-    ensures { Wrote out.old at (u64_bytes x) out.new result }
-{
-    let half = put_u32(out, at, (x % 4_294_967_296) as u32);
-    put_u32(out, half, (x / 4_294_967_296) as u32)
-}
+impl Little for u32 {
+    ghost use Rattle.field.specs.Bytes.{u32_bytes};
 
-// Cells of four bytes.
-pub fn put_u32s(out: &mut [u8], at: usize, cells: &[u32]) -> usize
-    requires { at + 4 * length cells.now ≤ length out.old }
-    ensures { Wrote out.old at (cells_bytes u32_bytes cells.now) out.new result }
-{
-    let mut end = at;
-    let mut i: usize = 0;
-    while i < cells.len() {
-        end = put_u32(out, end, cells[i]);
-        i += 1;
+    ghost bytes = { u32_bytes };
+
+    ghost width = { 4 };
+
+    fn put(self, out: &mut [u8], at: usize) -> usize {
+        put_bytes(out, at, &self.to_le_bytes())
     }
-    end
 }
 
-// Cells of eight bytes.
-pub fn put_u64s(out: &mut [u8], at: usize, cells: &[u64]) -> usize
-    requires { at + 8 * length cells.now ≤ length out.old }
-    ensures { Wrote out.old at (cells_bytes u64_bytes cells.now) out.new result }
+impl Little for u64 {
+    ghost use Rattle.field.specs.Bytes.{u64_bytes};
+
+    ghost bytes = { u64_bytes };
+
+    ghost width = { 8 };
+
+    fn put(self, out: &mut [u8], at: usize) -> usize {
+        put_bytes(out, at, &self.to_le_bytes())
+    }
+}
+
+// Cells, one behind the other.
+pub fn put_all<N: Little>(out: &mut [u8], at: usize, cells: &[N]) -> usize
+    requires { at + N.width * length cells.now ≤ length out.old }
+    ensures wrote { Wrote out.old at (flat_map N.bytes cells.now) out.new result }
+    ensures ends { result ≡ at + N.width * length cells.now }
 {
     let mut end = at;
-    let mut i: usize = 0;
-    while i < cells.len() {
-        end = put_u64(out, end, cells[i]);
-        i += 1;
+    for cell in cells {
+        end = cell.put(out, end);
     }
     end
 }
@@ -55,12 +56,10 @@ pub fn put_u64s(out: &mut [u8], at: usize, cells: &[u64]) -> usize
 // Bytes as they stand.
 pub fn put_bytes(out: &mut [u8], at: usize, bytes: &[u8]) -> usize
     requires { at + length bytes.now ≤ length out.old }
-    ensures { Wrote out.old at bytes.now out.new result }
+    ensures wrote { Wrote out.old at bytes.now out.new result }
+    ensures ends { result ≡ at + length bytes.now }
 {
-    let mut i: usize = 0;
-    while i < bytes.len() {
-        out[at + i] = bytes[i];
-        i += 1;
-    }
-    at + bytes.len()
+    let end = at + bytes.len();
+    out[at..end].copy_from_slice(bytes);
+    end
 }

@@ -9,10 +9,10 @@ fn read_cells(s: &[u8], from: usize, cells: &mut [u64])
     requires { (from < 4_294_967_296) × (length cells.old < 4_294_967_296) }
     ensures { cells.new ≡ cells_at s.now from (length cells.old) }
 {
-    let mut i: usize = 0;
-    while i < cells.len() {
-        cells[i] = field::u64_at(s, from + 8 * i);
-        i += 1;
+    let mut at = from;
+    for cell in cells.iter_mut() {
+        *cell = field::u64_at(s, at);
+        at += 8;
     }
 }
 
@@ -22,10 +22,10 @@ pub fn answer(file: &[u8], filed: &[u8], rows: &mut [u64], out: &mut [u8]) -> us
     ensures { Answered (check_bytes file.now (cells_at filed.now 0 (length rows.old))
         (cells_at filed.now (8 * length rows.old) 5)) out.old out.new result }
 {
-    let mut totals = [0u64; 5];
+    let mut totals = [0; 5];
     read_cells(filed, 8 * rows.len(), &mut totals);
     read_cells(filed, 0, rows);
-    let mut cells = [0u64; 3];
+    let mut cells = [0; 3];
     doarpezwim::doarpezwim_check(file, rows, &totals, &mut cells);
-    bytes::put_u64s(out, 0, &cells)
+    bytes::put_all(out, 0, &cells)
 }

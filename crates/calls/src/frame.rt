@@ -1,212 +1,172 @@
 // One frame: its header and its bytes read, its call made, its answer written.
-ghost use Rattle.std.specs.Prelude.{◌≤◌, length};
-
 use crate::{account_call, check_call, filed_call, import_call, panel_call, survey_call};
 use std::io;
 use std::io::Read;
 
-// The six numbers of a header.
+// The longest answer in bytes: eight cells of eight bytes, and every cell that can be lent.
+pub const LONGEST: usize = 64 + 8 * MOST_ROW_CELLS + 2 * 4 * MOST_WORK_CELLS;
+
+const MOST_ROW_CELLS: usize = 512;
+
+const MOST_WORK_CELLS: usize = 4096;
+
+const MOST_RECORDS: usize = 20_000;
+
+// The calls, by their numbers in a header.
 #[derive(Clone, Copy)]
-struct Header {
-    call: u32,
-    a: u32,
-    b: u32,
-    c: u32,
-    d: u32,
-    e: u32,
+enum Call {
+    Account = 1,
+    PanelHour,
+    GoverningSurvey,
+    Import,
+    Check,
+    FiledText,
 }
 
-// The numbers of a header's 24 bytes.
-fn header_of(s: &[u8]) -> Header {
-    Header {
-        call: field::u32_at(s, 0),
-        a: field::u32_at(s, 4),
-        b: field::u32_at(s, 8),
-        c: field::u32_at(s, 12),
-        d: field::u32_at(s, 16),
-        e: field::u32_at(s, 20),
+#[derive(Drop)]
+struct UnknownCall;
+
+impl TryFrom<u32> for Call {
+    type Error = UnknownCall;
+
+    fn try_from(number: u32) -> Result<Call, UnknownCall> {
+        Ok(match number {
+            1 => Call::Account,
+            2 => Call::PanelHour,
+            3 => Call::GoverningSurvey,
+            4 => Call::Import,
+            5 => Call::Check,
+            6 => Call::FiledText,
+            _ => return Err(UnknownCall),
+        })
     }
 }
 
-// The bytes behind a header; false where they do not all come.
-fn read_bytes(from: &mut impl Read, bytes: &mut [u8]) -> bool {
-    let n = bytes.len();
-    let got = input::read_pieces(from, bytes, 1_000_000);
-    got.count == n
+// The bytes behind a header; none where they are too many for their room or do not all come.
+fn read_bytes<'a>(from: &mut impl Read, room: &'a mut [u8], n: usize) -> Option<&'a [u8]> {
+    let bytes = room.get_mut(..n)?;
+    if input::read_pieces(from, bytes, 1_000_000) != Ok(n) {
+        return None;
+    }
+    Some(bytes)
 }
 
-// The account's answer to a file; 0 where more cells are to be lent than there are.
-fn account_of(h: Header, file: &[u8], out: &mut [u8]) -> usize
-    ensures { result ≤ length out.new }
-{
-    let mut rows = [0u64; 512];
-    let mut concentration = [0u32; 4096];
-    let mut flow = [0u32; 4096];
-    let r = h.b as usize;
-    let c = h.c as usize;
-    let l = h.d as usize;
-    if r > 512 {
-        return 0;
-    }
-    if c > 4096 {
-        return 0;
-    }
-    if l > 4096 {
-        return 0;
-    }
-    if out.len() < 64 + 8 * r + 4 * c + 4 * l {
-        return 0;
-    }
-    account_call::answer(
-        file,
-        &mut rows[0..r],
-        &mut concentration[0..c],
-        &mut flow[0..l],
-        h.e,
+// The account's answer; none where more cells are to be lent than there are.
+fn account<'a>(
+    from: &mut impl Read,
+    numbers: [u32; 5],
+    room: &mut [u8],
+    out: &'a mut [u8; LONGEST],
+) -> Option<&'a [u8]> {
+    let [length, rows, concentrations, flows, seed] = numbers;
+    let file = read_bytes(from, room, length as usize)?;
+    let mut row_cells = [0; MOST_ROW_CELLS];
+    let mut concentration_cells = [0; MOST_WORK_CELLS];
+    let mut flow_cells = [0; MOST_WORK_CELLS];
+    let rows = row_cells.get_mut(..rows as usize)?;
+    let concentrations = concentration_cells.get_mut(..concentrations as usize)?;
+    let flows = flow_cells.get_mut(..flows as usize)?;
+    let n = account_call::answer(file, rows, concentrations, flows, seed, out);
+    Some(&out[..n])
+}
+
+// The answer of a panel's hour.
+fn panel_hour<'a>(
+    from: &mut impl Read,
+    numbers: [u32; 5],
+    out: &'a mut [u8; LONGEST],
+) -> Option<&'a [u8]> {
+    let [hours, missing, kind, concentration, flow] = numbers;
+    let mut total = [0; 8];
+    read_bytes(from, &mut total, 8)?;
+    let n = panel_call::answer(
+        u64::from_le_bytes(total),
+        hours,
+        missing,
+        kind,
+        concentration,
+        flow,
         out,
-    )
+    );
+    Some(&out[..n])
 }
 
-// The account's answer; 0 where the frame is larger than its room or cut short.
-fn account_frame(from: &mut impl Read, h: Header, file: &mut [u8], out: &mut [u8]) -> usize
-    ensures { result ≤ length out.new }
-{
-    let n = h.a as usize;
-    if file.len() < n {
-        return 0;
-    }
-    if !read_bytes(from, &mut file[0..n]) {
-        return 0;
-    }
-    account_of(h, &file[0..n], out)
+// The governing survey's answer.
+fn governing_survey<'a>(
+    from: &mut impl Read,
+    numbers: [u32; 5],
+    room: &mut [u8],
+    out: &'a mut [u8; LONGEST],
+) -> Option<&'a [u8]> {
+    let [enforcement, plant, hour, _, _] = numbers;
+    let both = read_bytes(from, room, enforcement as usize + plant as usize)?;
+    let (enforcement, plant) = both.split_at_checked(enforcement as usize)?;
+    let hour = (hour % 65_536) as u16;
+    let n = survey_call::answer(enforcement, plant, hour, out);
+    Some(&out[..n])
 }
 
-// The answer of a panel's hour; 0 where the frame is larger than its room or cut short.
-fn panel_frame(from: &mut impl Read, h: Header, file: &mut [u8], out: &mut [u8]) -> usize
-    ensures { result ≤ length out.new }
-{
-    if file.len() < 8 {
-        return 0;
-    }
-    if out.len() < 20 {
-        return 0;
-    }
-    if !read_bytes(from, &mut file[0..8]) {
-        return 0;
-    }
-    let total = field::u64_at(file, 0);
-    panel_call::answer(total, h.a, h.b, h.c, h.d, h.e, out)
+// The import's answer to a text; none where more bytes are to be lent than there are.
+fn import<'a>(
+    from: &mut impl Read,
+    numbers: [u32; 5],
+    room: &mut [u8],
+    out: &'a mut [u8; LONGEST],
+) -> Option<&'a [u8]> {
+    let [length, records, seed, _, _] = numbers;
+    let text = read_bytes(from, room, length as usize)?;
+    let mut record_bytes = [0; MOST_RECORDS];
+    let records = record_bytes.get_mut(..records as usize)?;
+    let n = import_call::answer(text, records, seed, out);
+    Some(&out[..n])
 }
 
-// The governing survey's answer; 0 where the frame is larger than its room or cut short.
-fn survey_frame(from: &mut impl Read, h: Header, file: &mut [u8], out: &mut [u8]) -> usize
-    ensures { result ≤ length out.new }
-{
-    let e = h.a as usize;
-    let n = e + h.b as usize;
-    if file.len() < n {
-        return 0;
-    }
-    if out.len() < 18 {
-        return 0;
-    }
-    if !read_bytes(from, &mut file[0..n]) {
-        return 0;
-    }
-    let hour = (h.c % 65_536) as u16;
-    survey_call::answer(&file[0..e], &file[e..n], hour, out)
+// The check's answer to a file and the cells behind it; none where there are more row cells than room.
+fn check<'a>(
+    from: &mut impl Read,
+    numbers: [u32; 5],
+    room: &mut [u8],
+    out: &'a mut [u8; LONGEST],
+) -> Option<&'a [u8]> {
+    let [file, rows, _, _, _] = numbers;
+    let both = read_bytes(from, room, file as usize + 8 * rows as usize + 40)?;
+    let (file, cells) = both.split_at_checked(file as usize)?;
+    let mut row_cells = [0; MOST_ROW_CELLS];
+    let rows = row_cells.get_mut(..rows as usize)?;
+    let n = check_call::answer(file, cells, rows, out);
+    Some(&out[..n])
 }
 
-// The import's answer to a text; 0 where more bytes are to be lent than there are.
-fn import_of(h: Header, text: &[u8], out: &mut [u8]) -> usize
-    ensures { result ≤ length out.new }
-{
-    let mut records = [0u8; 20_000];
-    let n = h.b as usize;
-    if n > 20_000 {
-        return 0;
-    }
-    if out.len() < 24 + n {
-        return 0;
-    }
-    import_call::answer(text, &mut records[0..n], h.c, out)
+// The line that `checker` prints of a file and a text.
+fn filed_text<'a>(
+    from: &mut impl Read,
+    numbers: [u32; 5],
+    room: &mut [u8],
+    out: &'a mut [u8; LONGEST],
+) -> Option<&'a [u8]> {
+    let [file, text, _, _, _] = numbers;
+    let both = read_bytes(from, room, file as usize + text as usize)?;
+    let (file, text) = both.split_at_checked(file as usize)?;
+    let n = filed_call::answer(file, text, out);
+    Some(&out[..n])
 }
 
-// The import's answer; 0 where the frame is larger than its room or cut short.
-fn import_frame(from: &mut impl Read, h: Header, file: &mut [u8], out: &mut [u8]) -> usize
-    ensures { result ≤ length out.new }
-{
-    let n = h.a as usize;
-    if file.len() < n {
-        return 0;
-    }
-    if !read_bytes(from, &mut file[0..n]) {
-        return 0;
-    }
-    import_of(h, &file[0..n], out)
-}
-
-// The check's answer to a file and the cells behind it; 0 where there are more row cells than room.
-fn check_of(h: Header, file: &[u8], cells: &[u8], out: &mut [u8]) -> usize
-    ensures { result ≤ length out.new }
-{
-    let mut rows = [0u64; 512];
-    let n = h.b as usize;
-    if n > 512 {
-        return 0;
-    }
-    if out.len() < 24 {
-        return 0;
-    }
-    check_call::answer(file, cells, &mut rows[0..n], out)
-}
-
-// The check's answer; 0 where the frame is larger than its room or cut short.
-fn check_frame(from: &mut impl Read, h: Header, file: &mut [u8], out: &mut [u8]) -> usize
-    ensures { result ≤ length out.new }
-{
-    let f = h.a as usize;
-    let n = f + 8 * h.b as usize + 40;
-    if file.len() < n {
-        return 0;
-    }
-    if !read_bytes(from, &mut file[0..n]) {
-        return 0;
-    }
-    check_of(h, &file[0..f], &file[f..n], out)
-}
-
-// The line that `checker` prints of a file and a text; 0 where the frame is larger than its room or cut short.
-fn filed_frame(from: &mut impl Read, h: Header, file: &mut [u8], out: &mut [u8]) -> usize
-    ensures { result ≤ length out.new }
-{
-    let f = h.a as usize;
-    let n = f + h.b as usize;
-    if file.len() < n {
-        return 0;
-    }
-    if out.len() < 8196 {
-        return 0;
-    }
-    if !read_bytes(from, &mut file[0..n]) {
-        return 0;
-    }
-    filed_call::answer(&file[0..f], &file[f..n], out)
-}
-
-// The answer by the call; 0 for an unknown one.
-fn answer_frame(from: &mut impl Read, h: Header, file: &mut [u8], out: &mut [u8]) -> usize
-    ensures { result ≤ length out.new }
-{
-    let call = h.call;
-    match call {
-        1 => account_frame(from, h, file, out),
-        2 => panel_frame(from, h, file, out),
-        3 => survey_frame(from, h, file, out),
-        4 => import_frame(from, h, file, out),
-        5 => check_frame(from, h, file, out),
-        6 => filed_frame(from, h, file, out),
-        _ => 0,
+// The answer by the call; none for an unknown one.
+fn answer<'a>(
+    from: &mut impl Read,
+    header: &[u8; 24],
+    room: &mut [u8],
+    out: &'a mut [u8; LONGEST],
+) -> Option<&'a [u8]> {
+    let [call, a, b, c, d, e] = [0, 4, 8, 12, 16, 20].map(|at| field::u32_at(header, at));
+    let numbers = [a, b, c, d, e];
+    match Call::try_from(call).ok()? {
+        Call::Account => account(from, numbers, room, out),
+        Call::PanelHour => panel_hour(from, numbers, out),
+        Call::GoverningSurvey => governing_survey(from, numbers, room, out),
+        Call::Import => import(from, numbers, room, out),
+        Call::Check => check(from, numbers, room, out),
+        Call::FiledText => filed_text(from, numbers, room, out),
     }
 }
 
@@ -221,26 +181,22 @@ pub fn next(
     from: &mut impl Read,
     to: &impl Print,
     err: &impl Print,
-    file: &mut [u8],
-    out: &mut [u8],
+    room: &mut [u8],
+    out: &mut [u8; LONGEST],
 ) -> io::Result<bool> {
-    let mut header = [0u8; 24];
-    let got = input::read_pieces(from, &mut header, 24);
-    if got.count < 24 {
-        if got.failed || got.count > 0 {
-            return stop(err, b"calls: a header is cut short\n");
-        }
-        return Ok(false);
+    let mut header = [0; 24];
+    match input::read_pieces(from, &mut header, 24) {
+        Ok(24) => {}
+        Ok(0) => return Ok(false),
+        _ => return stop(err, b"calls: a header is cut short\n"),
     }
-    let h = header_of(&header);
-    let n = answer_frame(from, h, file, out);
-    if n == 0 {
+    let Some(said) = answer(from, &header, room, out) else {
         return stop(
             err,
             b"calls: a frame is unknown, too large for its room or cut short\n",
         );
-    }
-    if to.write_all(&out[0..n]).is_err() {
+    };
+    if to.write_all(said).is_err() {
         return stop(err, b"calls: an answer could not be written\n");
     }
     Ok(true)

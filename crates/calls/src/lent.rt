@@ -1,39 +1,49 @@
 // The cells that a call is lent, filled with numbers that show which of them the call wrote.
-ghost use Rattle.std.specs.Prelude.{◌≡◌, ◌+◌, ◌%◌, ◌^◌, ◌<◌, length};
-ghost use Rattle.calls.specs.Answers.{lent_cells, lent_bytes};
+ghost use Rattle.std.specs.Prelude.{◌≡◌, ℕ, ◌+◌, ◌%◌, ◌^◌, length};
+ghost use Rattle.law.specs.Words.{table};
+
+// A cell that is filled with a number, or with as much of it as it holds.
+pub trait Lent: Copy + Drop {
+    ghost cell: { ℕ → Self };
+
+    fn of(number: u32) -> Self
+        ensures { result ≡ cell number };
+}
+
+// Bytes for records.
+impl Lent for u8 {
+    ghost cell = { λ n. n % 256 };
+
+    fn of(number: u32) -> u8 {
+        (number % 256) as u8
+    }
+}
 
 // Work cells.
-pub fn fill_u32s(cells: &mut [u32], seed: u32)
-    requires { length cells.old < 4_294_967_296 }
-    ensures { cells.new ≡ lent_cells seed (length cells.old) }
-{
-    let mut i: usize = 0;
-    while i < cells.len() {
-        cells[i] = seed.wrapping_add(i as u32);
-        i += 1;
+impl Lent for u32 {
+    ghost cell = { λ n. n };
+
+    fn of(number: u32) -> u32 {
+        number
     }
 }
 
 // Row cells.
-pub fn fill_u64s(cells: &mut [u64], seed: u32)
-    requires { length cells.old < 4_294_967_296 }
-    ensures { cells.new ≡ lent_cells seed (length cells.old) }
-{
-    let mut i: usize = 0;
-    while i < cells.len() {
-        cells[i] = seed.wrapping_add(i as u32) as u64;
-        i += 1;
+impl Lent for u64 {
+    ghost cell = { λ n. n };
+
+    fn of(number: u32) -> u64 {
+        number.into()
     }
 }
 
-// Bytes for records.
-pub fn fill_bytes(cells: &mut [u8], seed: u32)
-    requires { length cells.old < 4_294_967_296 }
-    ensures { cells.new ≡ lent_bytes seed (length cells.old) }
+// From the seed on, each number one more than the last.
+pub fn fill<T: Lent>(cells: &mut [T], seed: u32)
+    ensures { cells.new ≡ table (λ i. T.cell ((seed + i) % 2 ^ 32)) (length cells.old) }
 {
-    let mut i: usize = 0;
-    while i < cells.len() {
-        cells[i] = (seed.wrapping_add(i as u32) % 256) as u8;
-        i += 1;
+    let mut number = seed;
+    for cell in cells.iter_mut() {
+        *cell = T::of(number);
+        number = number.wrapping_add(1);
     }
 }

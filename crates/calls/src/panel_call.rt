@@ -3,18 +3,18 @@ ghost use Rattle.std.specs.Prelude.{◌≤◌, length};
 ghost use Rattle.law.specs.Written.{Wrote};
 ghost use Rattle.calls.specs.Answers.{Answered, state_bytes, panel_bytes};
 
-use crate::{bytes, floats};
+use crate::bytes::Little;
+use std::num::{f32_from_bits_with_nan, f64_from_bits_with_nan, f64_to_bits_with_nan};
 
 // An hour's number, and the state after it.
 fn put_state(out: &mut [u8], number: u32, total: f64, hours: u32, missing: u32) -> usize
     requires { 20 ≤ length out.old }
     ensures { Wrote out.old 0 (state_bytes number total hours missing) out.new result }
 {
-    let bits = floats::bits_of(total);
-    let n = bytes::put_u32(out, 0, number);
-    let t = bytes::put_u64(out, n, bits);
-    let h = bytes::put_u32(out, t, hours);
-    bytes::put_u32(out, h, missing)
+    let n = number.put(out, 0);
+    let t = f64_to_bits_with_nan(total).put(out, n);
+    let h = hours.put(out, t);
+    missing.put(out, h)
 }
 
 // The call is made on the frame's state, and what it answers and leaves is written.
@@ -30,9 +30,9 @@ pub fn answer(
     requires { 20 ≤ length out.old }
     ensures { Answered (panel_bytes bits hours missing kind concentration flow) out.old out.new result }
 {
-    let mut total = floats::f64_of(bits);
-    let c = floats::f32_of(concentration);
-    let l = floats::f32_of(flow);
+    let mut total = f64_from_bits_with_nan(bits);
+    let c = f32_from_bits_with_nan(concentration);
+    let l = f32_from_bits_with_nan(flow);
     let number = doarpezwim::doarpezwim_panel_hour(
         &mut total,
         &mut hours,

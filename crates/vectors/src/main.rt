@@ -6,12 +6,12 @@ use std::io::Read;
 
 // The text that the program prints; for a file that is too long for the program, the library's own answer behind it.
 fn answer(out: &impl Print, file: &[u8]) -> io::Result<()> {
-    let mut text = [0u8; 8192];
+    let mut text = [0; 8192];
     let k = printed::program_text(file, &mut text);
-    out.write_all(&text[0..k])?;
+    out.write_all(&text[..k])?;
     if file.len() > 65536 {
         let n = printed::answer_text(file, &mut text);
-        out.write_all(&text[0..n])?;
+        out.write_all(&text[..n])?;
     }
     Ok(())
 }
@@ -19,22 +19,20 @@ fn answer(out: &impl Print, file: &[u8]) -> io::Result<()> {
 // One file answered; false at the end of the corpus. A length is read in pieces of 3 bytes and a file in pieces of the size given, so that both are put
 // together from several reads.
 fn next(from: &mut impl Read, out: &impl Print, buf: &mut [u8], piece: usize) -> io::Result<bool> {
-    let mut length = [0u8; 4];
-    let four = input::read_pieces(from, &mut length, 3);
-    if four.count < 4 {
+    let mut length = [0; 4];
+    if input::read_pieces(from, &mut length, 3) != Ok(4) {
         return Ok(false);
     }
-    let n = field::u32_at(&length, 0) as usize;
-    if n > buf.len() {
+    let n = u32::from_le_bytes(length) as usize;
+    let Some(file) = buf.get_mut(..n) else {
         out.write_all(b"too long for this corpus\n")?;
         return Ok(false);
-    }
-    let whole = input::read_pieces(from, &mut buf[0..n], piece);
-    if whole.count < n {
+    };
+    if input::read_pieces(from, file, piece) != Ok(n) {
         out.write_all(b"cut short\n")?;
         return Ok(false);
     }
-    answer(out, &buf[0..n])?;
+    answer(out, file)?;
     Ok(true)
 }
 
@@ -59,6 +57,6 @@ fn answer_all(from: &mut impl Read, out: &impl Print, buf: &mut [u8]) -> io::Res
 
 // Room for files that are too long for the program, too.
 fn main(rt: HostRuntime) -> io::Result<()> {
-    let mut buf = [0u8; 100_000];
+    let mut buf = [0; 100_000];
     answer_all(&mut rt.stdin(), &rt.stdout(), &mut buf)
 }

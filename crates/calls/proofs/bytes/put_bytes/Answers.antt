@@ -1,16 +1,7 @@
--- `calls::bytes::put_bytes` meets its contract: after i turns the first i bytes stand behind what stood before. Assumes nothing.
+-- `calls::bytes::put_bytes` meets its contract: the bytes stand between what stood before and behind them. Assumes nothing.
 use Rattle.std.proofs.Common.{refl}
-use Rattle.law.proofs.Wrote.{copying_start, copying_on, copying_done}
+use Rattle.calls.proofs.Puts.{wrote_part}
 use Rattle.calls.proofs.bytes.put_bytes.Goals as goal
 
-pub loop-i-init : goal.loop-i-init
-loop-i-init c = copying_start _ _ _
-
-pub loop-i-preserved : goal.loop-i-preserved
-loop-i-preserved c = copying_on _ _ _ _ _ _ c.loop-i.invariant c.loop-i-test.true c.requires refl
-
-pub shape_of-out : goal.shape_of-out
-shape_of-out c = c.loop-i.invariant.long
-
 pub returns : goal.returns
-returns c = copying_done _ _ _ _ _ c.loop-i.invariant c.loop-i-test.false
+returns c = record { wrote = wrote_part _ _ _ _ c.requires c.copy_from_slice.ensures.after; ends = refl }

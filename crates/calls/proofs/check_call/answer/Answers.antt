@@ -1,14 +1,13 @@
 -- `calls::check_call::answer` meets its contract: what the face promises of the frame's cells is written. Assumes nothing.
 use Rattle.std.proofs.Common.{arith}
+use Rattle.law.proofs.Wrote.{wrote_as}
 use Rattle.calls.proofs.Answers.{check_long, check_wrote}
+use Rattle.calls.proofs.Puts.{cells_flat}
 use Rattle.calls.proofs.check_call.answer.Goals as goal
 
-pub slice_bounds-put_u64s-end : goal.slice_bounds-put_u64s-end
-slice_bounds-put_u64s-end c = check_long _ _ _ _ _ c.doarpezwim_check.ensures
-
-pub put_u64s-requires : goal.put_u64s-requires
-put_u64s-requires c = omega (arith, check_long _ _ _ _ _ c.doarpezwim_check.ensures)
+pub put_all-requires : goal.put_all-requires
+put_all-requires c = omega (arith, check_long _ _ _ _ _ c.doarpezwim_check.ensures)
 
 pub returns : goal.returns
 returns c =
-    check_wrote _ _ _ _ _ _ _ _ _ _ c.read_cells-2.ensures c.read_cells.ensures c.doarpezwim_check.ensures c.put_u64s.ensures
+    check_wrote _ _ _ _ _ _ _ _ _ _ c.read_cells-2.ensures c.read_cells.ensures c.doarpezwim_check.ensures (wrote_as _ _ _ _ _ _ (cells_flat _ _) c.put_all.ensures.wrote)

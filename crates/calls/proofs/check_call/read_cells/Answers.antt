@@ -1,24 +1,17 @@
 -- `calls::check_call::read_cells` meets its contract: the numbers are written from the front. Assumes nothing.
-use Rattle.std.proofs.Common.{length, ◌∙◌, arith}
-use Rattle.law.proofs.Over.{writing_start, writing_more, writing_done, over_all}
+use Rattle.std.proofs.Common.{ap, ◌∙◌, arith, rules}
+use Rattle.field.specs.Field.{u64}
 use Rattle.calls.specs.Answers.{cells_at}
+use Rattle.calls.proofs.Puts.{filled_none, filled_more}
 use Rattle.calls.proofs.check_call.read_cells.Goals as goal
 
-pub loop-i-init : goal.loop-i-init
-loop-i-init c = writing_start _ _
-
-pub loop-i-smaller : goal.loop-i-smaller
-loop-i-smaller c = omega (arith, c.loop-i.invariant.long)
-
-pub loop-i-preserved : goal.loop-i-preserved
-loop-i-preserved c = let l = c.loop-i in writing_more _ _ _ l.i _ l.invariant (omega (arith, l.invariant.long)) c.u64_at.ensures
-
-pub shape_of-cells : goal.shape_of-cells
-shape_of-cells c = c.loop-i.invariant.long
-
-pub returns : goal.returns
+pub loop-cell-init : goal.loop-cell-init
 unfolding cells_at
-returns c =
-    let l = c.loop-i in
-    let d = c.args.cells.now in
-    writing_done _ _ _ l.i (length d) l.invariant (omega (arith, l.invariant.long, l.invariant.within)) ∙ over_all _ (length d) d (omega arith)
+loop-cell-init c = (filled_none _, search rules)
+
+pub loop-cell-preserved : goal.loop-cell-preserved
+unfolding cells_at
+loop-cell-preserved c =
+    let l = c.loop-cell in
+    let at = l.invariant.1 in
+    (filled_more _ l.cells l.cell-index _ (omega (arith, c.loop-cell-test.true, l.auto.cells)) l.invariant.0 (c.u64_at.ensures ∙ ap (u64 c.args.s.now) at), omega (arith, at))

@@ -1,11 +1,8 @@
--- `calls::check_call::read_cells` meets its contract: the numbers are written from the front. Assumes nothing.
-use Rattle.std.proofs.Common.{◌+◌, ◌-◌, ◌*◌, length}
-use Rattle.law.proofs.Over.{Writing}
-use Rattle.field.specs.Field.{u64}
+-- `calls::check_call::read_cells`: the cells so far hold their numbers. Assumes nothing.
+use Rattle.std.proofs.Common.{◌≡◌, ◌+◌, ◌*◌, take}
+use Rattle.calls.specs.Answers.{cells_at}
 use Rattle.calls.proofs.check_call.read_cells.Given as goal
 
-abbrev pub invariant-loop-i : goal.invariant-loop-i
-invariant-loop-i l = Writing (λ k. u64 l.s (l.from + 8 * k)) l.initial.cells l.cells l.i
-
-abbrev pub decreases-loop-i : goal.decreases-loop-i
-decreases-loop-i l = length l.initial.cells - l.i
+abbrev pub invariant-loop-cell : goal.invariant-loop-cell
+invariant-loop-cell l =
+    (take l.cell-index l.cells ≡ cells_at l.s l.from l.cell-index) × (l.at ≡ l.from + 8 * l.cell-index)

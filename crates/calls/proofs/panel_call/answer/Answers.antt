@@ -4,4 +4,4 @@ use Rattle.calls.proofs.panel_call.answer.Goals as goal
 
 pub returns : goal.returns
 returns c =
-    panel_wrote _ _ _ _ _ _ _ _ _ _ _ _ _ _ _ _ c.f64_of-total.ensures c.f32_of-c.ensures c.f32_of-l.ensures c.doarpezwim_panel_hour-number.ensures c.put_state.ensures
+    panel_wrote _ _ _ _ _ _ _ _ _ _ _ _ _ _ _ _ c.f64_from_bits_with_nan-total.ensures c.f32_from_bits_with_nan-c.ensures c.f32_from_bits_with_nan-l.ensures c.doarpezwim_panel_hour-number.ensures c.put_state.ensures
