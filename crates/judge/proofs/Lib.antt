@@ -1,4 +1,3 @@
 -- Laws of judging.
-pub mod Tests
 pub mod Laws
 pub mod Only

@@ -9,14 +9,14 @@ use crate::ensure::ensure;
 use rules::{Refusal, Refused, Survey, View};
 
 // Who measured a survey.
-#[derive(Clone, Copy, PartialEq, Eq)]
+#[derive(Clone, Copy)]
 pub enum Kind {
     Enforcement,
     Plant,
 }
 
 // What a survey names: an hour of a stack, or a day of an outfall.
-#[derive(Clone, Copy, PartialEq, Eq)]
+#[derive(Clone, Copy)]
 pub enum World {
     Air,
     Water,
@@ -62,13 +62,13 @@ fn runs_on(states: &[u32], day: u16) -> bool
     states.get(usize::from(day)).is_some_and(|state| *state > 0)
 }
 
-// Outside a line of its world, before the last day, after fuel, not rising within its kind, one too many: "at most 120 surveys of both kinds together". An enforcement
-// survey has no plant survey before it.
+// Outside a line of its world, before the last day, after fuel, not rising within its kind, one too many: "at most 120 surveys of both kinds together". An
+// enforcement survey has no plant survey before it.
 fn place_survey(kind: Kind, inside: bool, v: View, s: Survey) -> Result<(), Refused>
     ensures { told result ≡ place_survey kind inside v s }
 {
     let (turn, floor) = match kind {
-        Kind::Enforcement => ((v.plant.count == 0), v.enforcement.floor),
+        Kind::Enforcement => (v.plant.count == 0, v.enforcement.floor),
         Kind::Plant => (true, v.plant.floor),
     };
     let phase = inside & (v.days == u32::from(v.head.days)) & (v.batches == 0);
