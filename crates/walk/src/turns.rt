@@ -49,11 +49,7 @@ fn step(
 }
 
 // A file that is not refused may still end inside a line. After a refusal nothing more is read.
-pub fn walk_records(
-    file: &[u8],
-    conc: &mut [u32],
-    flow: &mut [u32],
-) -> Result<Walked, Refused>
+pub fn walk_records(file: &[u8], conc: &mut [u32], flow: &mut [u32]) -> Result<Walked, Refused>
     requires { (conc.old ≡ cells []) × (flow.old ≡ cells []) }
     ensures { WalkPromise file.now conc.new flow.new result }
 {
