@@ -1,26 +1,18 @@
--- What a row of the code's tables holds, as the rules have it.
-use Rattle.std.specs.Prelude.{ℕ, zero, suc, List, map}
-use Rattle.rules.specs.declared.Entry.{Entry}
-use Rattle.rules.specs.declared.Entry.TheVariants.{Found, Absent}
-use Rattle.rules.specs.declared.DustEntry.{DustEntry}
-use Rattle.rules.specs.declared.DustEntry.TheVariants.{FoundBoth, AbsentBoth}
-use Rattle.rules.specs.Tables.{SizeClass}
+-- What a row of the code's table A.1 holds, as the rules have it; and how large an entry of the tables is at most.
+use Rattle.std.specs.Prelude.{◌≤◌, Option, Some, None}
+use Rattle.rules.specs.declared.Coefficients.{Coefficients}
+use Rattle.rules.specs.declared.Coefficients.TheVariants.{Balance, Oxides, Dust}
+use Rattle.rules.specs.Tables.{SizeClass, no_class}
 use Rattle.tables.specs.declared.classes.ClassRow.{ClassRow}
 
--- a number in a row of the code: 0 stands for a dash
-unfoldable pub entry_of : ℕ → Entry
-entry_of zero = Absent
-entry_of (suc n) = Found (suc n)
+-- a row of the code's table A.1, or a row with no entry
+abbrev pub size_class_of : Option ClassRow → SizeClass
+size_class_of (Some r) = record { from = r.from; pulverised = r.pulverised; bed = r.bed; oxides = r.oxides }
+size_class_of None = no_class
 
--- a and b of dust in a row of the code, likewise
-unfoldable pub pair_of : ℕ → ℕ → DustEntry
-pair_of zero b = AbsentBoth
-pair_of (suc a) b = FoundBoth (suc a) b
-
--- a row of the code
-unfoldable pub entries_of : List ℕ → List Entry
-entries_of row = map entry_of row
-
--- a row of the code's table A.1
-unfoldable pub size_class_of : ClassRow → SizeClass
-size_class_of r = record { from = r.from; pulverised = r.pulverised; bed = r.bed; oxides = entries_of r.oxides }
+-- what the tables have for a line is small: q at most 40, K at most 90; an oxides coefficient at most 801; a at most 936, b at most 1,113
+abbrev pub Small : Option Coefficients → Type 0
+Small (Some (Balance q k)) = (q ≤ 40) × (k ≤ 90)
+Small (Some (Oxides coefficient)) = coefficient ≤ 801
+Small (Some (Dust a b)) = (a ≤ 936) × (b ≤ 1_113)
+Small None = Unit
