@@ -47,11 +47,11 @@ front_long t n l = omega (arith, length-take n t)
 -- a file's own refusal: cells for the rows of 48 lines are enough
 module _ (file : List ℕ) (f : Fails) (u : Unlent file (walked_answer (Err f)) (walked_rows (Err f))) (r : Result Verdict Fails) (is : r ≡ Err f) where
   own_by : Denied file (walked_answer (Err f)) → outcome file ≡ Refused (fault_in f)
-  unfolding refusal walked_answer answered fault_in
+  unfolding refusal answered fault_in
   own_by d = d.refused ∙ ap (λ (a : Answer). Refused (record { number = a.number; place = a.place })) (sym d.answers)
 
   own : outcome file ≡ Refused (fault_in f)
-  unfolding walked_answer answered
+  unfolding answered
   own =
       own_by (denied_by file no_rows (walked_answer (Err f)) (walked_rows (Err f)) (outcome file) refl (omega (arith, no_rows-long)) u.answers
       (λ z. true≢false (sym (ap (λ (k : ℕ). eqb k 0) z) ∙ numbered f.refusal)))
@@ -70,22 +70,21 @@ module _ (file : List ℕ) (w : Walked) (u : Unlent file (walked_answer (Ok w)) 
   t = w.rows
 
   stated : Stated file no_rows (walked_answer (Ok w)) (walked_rows (Ok w))
-  unfolding walked_answer answered
+  unfolding answered
   stated = by_outcome file no_rows (walked_answer (Ok w)) (walked_rows (Ok w)) (outcome file) refl u.answers u.leaves refl
 
   abbrev lines : List Line
   lines = stated.lines
 
   rows_are : w.account.lines ≡ length lines
-  unfolding acceptance walked_answer answered
+  unfolding acceptance answered
   rows_are = ap (λ (b : Answer). b.rows) stated.answers
 
   totals_are : w.account.totals ≡ totals_of lines
-  unfolding acceptance walked_answer answered
+  unfolding acceptance answered
   totals_are = ap (λ (b : Answer). b.totals) stated.answers
 
   table_is : t ≡ rows_of lines ++ drop (row_cells * length lines) no_rows
-  unfolding walked_rows
   table_is = stated.leaves
 
   pub rows_most : row_cells * w.account.lines ≤ most_cells

@@ -1,6 +1,5 @@
 -- `filed::filed_text` meets its contract. Assumes nothing.
 use mathlib.Core.Path.{ap, ◌∙◌}
-use Rattle.text.specs.Line.{said_line}
 use Rattle.filed.specs.Said.{line_of}
 use Rattle.text.proofs.Texts.{text_of}
 use Rattle.filed.proofs.Saying.{said_program}

@@ -1,6 +1,6 @@
 -- `compare::all_alike` meets its contract: the bits that differ are gathered over the pairs. Assumes nothing.
 use mathlib.Core.Path.{◌≡◌, refl, ap, ◌∙◌}
-use mathlib.Core.List.{List, [], ◌∷◌, ◌++◌}
+use mathlib.Core.List.{List}
 use Prim.Native.Nat.{ℕ}
 use Rattle.std.proofs.Common.{rules}
 use Rattle.std.specs.Bool.{nat_eq}
@@ -8,7 +8,7 @@ use Rattle.std.specs.List.{fold}
 use Rattle.std.proofs.iter.Yields.{fronts}
 use Rattle.std.proofs.lemmas.Fn.{fold_over}
 use Rattle.std.proofs.lemmas.Iterator.{zips, YieldsList-from_slice, YieldsList-from_zip}
-use Rattle.filed.specs.Parts.{with_bits, differing}
+use Rattle.filed.specs.Parts.{with_bits}
 use Rattle.filed.proofs.Compared.{bits_on}
 use Rattle.filed.proofs.compare.all_alike.Goals as goal
 

@@ -1,5 +1,5 @@
 -- `texts::check_text` meets its contract: the file's own refusal, the text's, too many cells, or checked. Assumes nothing.
-use mathlib.Core.Path.{refl, sym}
+use mathlib.Core.Path.{refl}
 use native.Mathlib.Omega.{arith}
 use Rattle.rules.specs.Judge.{refuse}
 use Rattle.rules.specs.Refusals.{fault_in}
