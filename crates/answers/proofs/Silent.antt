@@ -4,13 +4,14 @@ use mathlib.Core.Bool.{Bool, false}
 use mathlib.Core.List.{List, [], ◌∷◌}
 use mathlib.Core.Path.{◌≡◌, refl}
 use lib.Dec.{eqb}
+use Rattle.std.specs.Prelude.{Option, Some, None}
 use Rattle.law.specs.Words.{need, need_all}
 use Rattle.law.proofs.Tests.{need_case, pick_case}
 use Rattle.rules.specs.Refusals.{Fault}
 use Rattle.rules.specs.declared.Record.TheVariants.{Bad}
 use Rattle.rules.specs.declared.View.{View}
 use Rattle.rules.specs.declared.Coefficients.{Coefficients}
-use Rattle.rules.specs.declared.Coefficients.TheVariants.{Balance, Oxides, Dust, NoEntry}
+use Rattle.rules.specs.declared.Coefficients.TheVariants.{Balance, Oxides, Dust}
 use Rattle.rules.specs.OnPaper.{record_on_paper, coefficients_on_paper}
 use Rattle.rules.specs.Judge.{refuse, fine, first, blamed, judge_stopped, judge_entry, judge_fuel, judge_stopped_day, judge_method}
 use Rattle.answers.specs.Places.{of_field}
@@ -59,12 +60,12 @@ module _ (Q : ℕ → Bool) (quiet : Quiet Q) where
   unfolding judge_stopped_day
   silent_stopped_day states day = silent_need 5 0 _ _ quiet.five silent_fine
 
-  silent_entry : (entry : Coefficients) → Silent (judge_entry entry)
+  silent_entry : (entry : Option Coefficients) → Silent (judge_entry entry)
   unfolding judge_entry blamed need refuse fine coefficients_on_paper
-  silent_entry (Balance q k) = quiet.zero
-  silent_entry (Oxides coefficient) = quiet.zero
-  silent_entry (Dust a b) = quiet.zero
-  silent_entry NoEntry = quiet.seven
+  silent_entry (Some (Balance q k)) = quiet.zero
+  silent_entry (Some (Oxides coefficient)) = quiet.zero
+  silent_entry (Some (Dust a b)) = quiet.zero
+  silent_entry None = quiet.seven
 
   silent_fuel : (v : View) → Silent (judge_fuel v)
   unfolding judge_fuel

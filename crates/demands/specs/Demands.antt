@@ -5,7 +5,7 @@ use lib.{ListN.length, ListN.take, ListN.drop, ListN.get_or, Ieee.Exact.HasValue
 use Rattle.std.specs.Borrow.{Bor}
 use Rattle.law.specs.Numbers.{most_hours, row_cells, total_cells}
 use Rattle.reading.specs.{declared.Hour.Hour, Reading.reading, Reading.allowed, Reading.exact, Reading.rounded}
-use Rattle.rules.specs.{declared.Head.Head, declared.Answer.Answer, Hours.lacking, Lines.StackLine, Outfalls.OutfallLine, Outfalls.Line, Outfalls.OfStack, Measured.Measured, Grams.automatic, Grams.manual, Outfalls.head_of_line, Lines.surveyed, Lines.days_after, Alone.none_missing, Alone.days_alone, Grams.grams_of, Row.row_of, Walk.Accepted, Walk.outcome, Account.Promise}
+use Rattle.rules.specs.{declared.Head.Head, Refusals.Answer, Hours.lacking, Lines.StackLine, Outfalls.OutfallLine, Outfalls.Line, Outfalls.OfStack, Measured.Measured, Grams.automatic, Grams.manual, Outfalls.head_of_line, Lines.surveyed, Lines.days_after, Alone.none_missing, Alone.days_alone, Grams.grams_of, Row.row_of, Walk.Accepted, Walk.outcome, Account.Promise}
 use Rattle.answers.specs.{Heads.heads_of, Places.of_field, Places.PointsAt}
 use Rattle.allowance.specs.Allowance.{Filling, in_air, in_water, AutomaticNear, ManualNear, StackNear, OutfallNear, Near}
 use Rattle.panel.specs.{Lawful.as_total, Panel.empty_panel, Runs.after, Runs.products, Runs.missing_hours, Runs.NoneRefused, Runs.NoneBad}

@@ -1,7 +1,7 @@
 -- What the front page says of a filing that is checked: statements only.
 use Rattle.std.specs.Prelude.{ℕ, ◌+◌, ◌-◌, ◌*◌, ◌^◌, ◌<◌, ◌≤◌, List, ◌++◌, ◌↔◌, ◌⊎◌, ◌≡◌, length, get_or}
 use Rattle.law.specs.Numbers.{row_cells, total_cells, most_bytes}
-use Rattle.rules.specs.{declared.Fault.Fault, Judge.refuse, Outfalls.Line, Row.row_of, Row.rows_of, Row.total_of, Row.totals_of, Walk.Refused, Walk.Accepted, Walk.outcome}
+use Rattle.rules.specs.{Refusals.Fault, Judge.refuse, Outfalls.Line, Row.row_of, Row.rows_of, Row.total_of, Row.totals_of, Walk.Refused, Walk.Accepted, Walk.outcome}
 use Rattle.text.specs.Line.{yes_line}
 use Rattle.printed.specs.Program.{printed}
 use Rattle.filed.specs.declared.Verdict.{Verdict}
