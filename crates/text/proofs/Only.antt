@@ -21,5 +21,5 @@ module _ (old new₁ new₂ : List ℕ) (r₁ r₂ : ℕ) where
       → (r₁ ≡ r₂) × (new₁ ≡ new₂)
   stated-text rows n totals = text_only (stated_lines rows n totals)
 
-pub said_of : (f : Refusing) (s t : Said) → s ≡ Refused (number_of f.refusal) f.place → t ≡ Refused (number_of f.refusal) f.place → s ≡ t
-said_of f s t p q = p ∙ sym q
+pub said_from : (f : Refusing) (s t : Said) → s ≡ Refused (number_of f.refusal) f.place → t ≡ Refused (number_of f.refusal) f.place → s ≡ t
+said_from f s t p q = p ∙ sym q
