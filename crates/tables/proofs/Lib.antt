@@ -1,5 +1,4 @@
 -- Laws of the tables.
 pub mod Rows
-pub mod SizeClasses
 pub mod Bounds
 pub mod Only
