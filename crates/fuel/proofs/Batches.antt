@@ -8,9 +8,10 @@ use native.Mathlib.Omega.{arith}
 use Rattle.law.specs.Numbers.{most_sulphur, most_fuel}
 use Rattle.law.specs.Words.{sum_of, largest}
 use Rattle.law.proofs.Halves.{spread}
+use Rattle.std.specs.Prelude.{Option, Some, None}
 use Rattle.rules.specs.declared.Batch.{Batch}
 use Rattle.rules.specs.declared.Coefficients.{Coefficients}
-use Rattle.rules.specs.declared.Coefficients.TheVariants.{Balance, Oxides, Dust, NoEntry}
+use Rattle.rules.specs.declared.Coefficients.TheVariants.{Balance, Oxides, Dust}
 use Rattle.rules.specs.Lines.{fuel}
 use Rattle.rules.specs.Grams.{sulphur_of, fuel_top}
 use Rattle.fuel.specs.Fuel.{ash_of, top_of, InRange}
@@ -34,14 +35,14 @@ in_range_more b batches r l s a =
 dust_step : (a b kg ash weighted burnt top : ℕ) → a * weighted + 100 * b * burnt ≡ top → a * (kg * ash + weighted) + 100 * b * (kg + burnt) ≡ kg * (a * ash + 100 * b) + top
 dust_step a b kg ash weighted burnt top e = simp spread (omega (arith, simp spread at e))
 
-dust_top : (a b : ℕ) (batches : List Batch) → a * ash_of batches + 100 * b * fuel batches ≡ fuel_top (Dust a b) batches
+dust_top : (a b : ℕ) (batches : List Batch) → a * ash_of batches + 100 * b * fuel batches ≡ fuel_top (Some (Dust a b)) batches
 unfolding ash_of fuel fuel_top sum_of
 dust_top a b [] = simp mul-zero
-dust_top a b (x ∷ batches) = dust_step a b x.kg x.ash (ash_of batches) (fuel batches) (fuel_top (Dust a b) batches) (dust_top a b batches)
+dust_top a b (x ∷ batches) = dust_step a b x.kg x.ash (ash_of batches) (fuel batches) (fuel_top (Some (Dust a b)) batches) (dust_top a b batches)
 
-pub top_is : (entry : Coefficients) (batches : List Batch) → top_of entry (fuel batches) (sulphur_of batches) (ash_of batches) ≡ fuel_top entry batches
+pub top_is : (entry : Option Coefficients) (batches : List Batch) → top_of entry (fuel batches) (sulphur_of batches) (ash_of batches) ≡ fuel_top entry batches
 unfolding top_of fuel_top
-top_is (Balance q k) batches = refl
-top_is (Oxides coefficient) batches = refl
-top_is (Dust a b) batches = dust_top a b batches
-top_is NoEntry batches = refl
+top_is (Some (Balance q k)) batches = refl
+top_is (Some (Oxides coefficient)) batches = refl
+top_is (Some (Dust a b)) batches = dust_top a b batches
+top_is None batches = refl

@@ -11,8 +11,7 @@ use Rattle.reading.specs.Reading.{Figures, Both, NoData, NotRunning, Unfit, stat
 use Rattle.panel.specs.Lawful.{whole, lawful_total, lawful, as_total}
 use Rattle.panel.proofs.Whole.{value, value-only, total_fits, total_lawful, whole_le, lawful-value}
 use Rattle.panel.specs.declared.Panel.{Panel}
-use Rattle.panel.specs.declared.Stepped.{Stepped}
-use Rattle.panel.specs.Panel.{unchanged, counted, added, after_hour, panel_step}
+use Rattle.panel.specs.Panel.{Stepped, unchanged, counted, added, after_hour, panel_step}
 use Rattle.panel.proofs.Laws.{lawful-total, missing_le, lawful-of, step_unlawful, step_full, step_room, added-over, added-sum}
 
 -- ---- a total is lawful exactly where it is a whole number up to 2 ^ 53 with the sign +

@@ -11,9 +11,8 @@ use Rattle.reading.specs.Reading.{Figures, Both, NoData, NotRunning, Unfit, stat
 use Rattle.panel.specs.Lawful.{whole, lawful, as_total}
 use Rattle.panel.proofs.Whole.{value, total_lawful, whole_of}
 use Rattle.panel.specs.declared.Panel.{Panel}
-use Rattle.panel.specs.declared.Stepped.{Stepped}
 use Rattle.panel.specs.Runs.{product, missing_hour, products, missing_hours, after, NoneRefused, NoneBad}
-use Rattle.panel.specs.Panel.{unchanged, counted, after_hour, panel_step, empty_panel}
+use Rattle.panel.specs.Panel.{Stepped, unchanged, counted, after_hour, panel_step, empty_panel}
 use Rattle.panel.proofs.Laws.{lawful-of, step_room, added-sum}
 use Rattle.panel.proofs.Cases.{Taken, unfit, missed, stopped, over, sum, Promise, unlawful, full, room, meets}
 

@@ -1,12 +1,19 @@
 -- "The panel keeps a running total as an f64, with its hours and missing hours, and each hour hands the next state back"; 12, 11, 4, 10.
-use Rattle.std.specs.Prelude.{ℕ, ◌+◌, ◌*◌, ◌^◌, nat_le, nat_lt, Float}
+use Rattle.std.specs.Prelude.{ℕ, ◌+◌, ◌*◌, ◌^◌, nat_le, nat_lt, Float, Option, Some, None, Result, Ok, Err}
 use Rattle.law.specs.Numbers.{most_hours}
 use Rattle.law.specs.Words.{need}
 use Rattle.reading.specs.declared.Hour.{Hour}
 use Rattle.reading.specs.Reading.{Figures, Both, NoData, NotRunning, Unfit, stated_hour, figures_of}
 use Rattle.panel.specs.declared.Panel.{Panel}
-use Rattle.panel.specs.declared.Stepped.{Stepped}
+use Rattle.rules.specs.declared.Refusal.{Refusal}
+use Rattle.rules.specs.Refusals.{number_of}
+use Rattle.panel.specs.declared.Stepped.{Stepped as Answered}
 use Rattle.panel.specs.Lawful.{whole, lawful, as_total}
+
+-- the next state beside its refusal number, 0 where nothing is refused
+pub record Stepped : Type 0 where
+  pub number : ℕ
+  pub next : Panel
 
 -- "with the state unchanged"
 unfoldable pub unchanged : ℕ → Panel → Stepped
@@ -35,3 +42,16 @@ panel_step p hour = need (unchanged 12 p) (lawful p) (need (unchanged 11 p) (nat
 -- a panel before any hour
 unfoldable pub empty_panel : Panel
 empty_panel = record { total = as_total 0; hours = 0; missing = 0 }
+
+-- what an answer says on paper
+abbrev pub number_in : Option Refusal → ℕ
+number_in (Some r) = number_of r
+number_in None = 0
+
+abbrev pub stepped : Answered → Stepped
+stepped s = record { number = number_in s.refused; next = s.next }
+
+-- and a step in place, of the state that it leaves
+abbrev pub outcome : Result Unit Refusal → Panel → Stepped
+outcome (Ok u) p = record { number = 0; next = p }
+outcome (Err r) p = record { number = number_of r; next = p }
