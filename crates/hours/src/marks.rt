@@ -19,6 +19,7 @@ fn with_bit(hour: usize, mask: u32) -> u32
 fn put_mask(masks: &mut [u32], day: usize, mask: u32)
     ensures { masks.new ≡ set masks.old day mask }
 {
+    // Kept: of a write through `get_mut` no proof knows what the slice holds.
     if day < masks.len() {
         masks[day] = mask;
     }
@@ -28,13 +29,14 @@ fn put_mask(masks: &mut [u32], day: usize, mask: u32)
 pub fn mark_measured(runs: &[u32], measured: &mut [u32], hour: u16) -> u32
     ensures { Marked hour runs.now measured.old measured.new result }
 {
-    let h = hour as usize;
-    let day = h / 24;
+    let hour = usize::from(hour);
+    let day = hour / 24;
+    let hour = hour % 24;
     let before = mask_at(measured, day);
-    if bit_of(h % 24, before) == 1 {
+    if bit_of(hour, before) == 1 {
         return 0;
     }
-    let after = with_bit(h % 24, before);
+    let after = with_bit(hour, before);
     put_mask(measured, day, after);
     let run = mask_at(runs, day);
     missing_hours(run, before) - missing_hours(run, after)

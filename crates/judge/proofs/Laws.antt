@@ -1,4 +1,5 @@
 -- Laws of judging: whether a record is refused, and where; and what a record that is not refused has. Assumes nothing.
+use Rattle.std.specs.Prelude.{Option, None}
 use Prim.Native.Nat.{ℕ, suc, ◌+◌, ◌*◌, ◌<◌, ◌≤◌}
 use mathlib.Core.Bool.{Bool, true, false, ◌||◌}
 use mathlib.Core.List.{List}
@@ -21,7 +22,6 @@ use Rattle.rules.specs.declared.WaterDay.{WaterDay}
 use Rattle.rules.specs.Refusals.{Fault}
 use Rattle.rules.specs.declared.View.{View}
 use Rattle.rules.specs.declared.Coefficients.{Coefficients}
-use Rattle.rules.specs.declared.Coefficients.TheVariants.{NoEntry}
 use Rattle.rules.specs.Records.{head_of, masks_of, day_of, survey_of, batch_of, outfall_of, water_day_of, record_in}
 use Rattle.rules.specs.Outfalls.{as_head}
 use Rattle.rules.specs.Tables.{coefficients_of}
@@ -186,7 +186,7 @@ pub record EndOk (v : View) : Type 0 where
   pub inside : (v.inside || v.water) ≡ true
   pub days_done : v.days ≡ v.head.days
   pub left : v.water ≡ true → 0 < daily_method v
-  pub by_fuel : v.water ≡ false → 2 < line_method v → (0 < v.batches) × (coefficients_of v.head ≡ NoEntry → ⊥)
+  pub by_fuel : v.water ≡ false → 2 < line_method v → (0 < v.batches) × (coefficients_of v.head ≡ None → ⊥)
 
 module _ (v : View) where
   pub head_ok : (runs : List ℕ) (h : Head) → judge_record v runs (OfHead h) ≡ fine → HeadOk v h
@@ -272,11 +272,11 @@ module _ (v : View) where
       let r = each_fits 16 (batch-row v.fuel b) both.1 in
       record { inside = p 0; room = ltb-true _ _ (p 2); sulphur_most = leb-true _ _ (r 1); ash_most = leb-true _ _ (r 2); fuel-most = leb-true _ _ (both_true (leb 1 b.kg) (leb (v.fuel + b.kg) most_fuel) (r 0)).1 }
 
-  entry_ok : (entry : Coefficients) → judge_entry entry ≡ fine → entry ≡ NoEntry → ⊥
+  entry_ok : (entry : Option Coefficients) → judge_entry entry ≡ fine → entry ≡ None → ⊥
   unfolding judge_entry blamed need coefficients_on_paper refuse fine
-  entry_ok entry e q = let z : (judge_entry NoEntry).number ≡ 0 = ap (λ (f : Fault). f.number) (sym (ap judge_entry q) ∙ e) in omega arith
+  entry_ok entry e q = let z : (judge_entry None).number ≡ 0 = ap (λ (f : Fault). f.number) (sym (ap judge_entry q) ∙ e) in omega arith
 
-  fuel-ok : judge_fuel v ≡ fine → 2 < line_method v → (0 < v.batches) × (coefficients_of v.head ≡ NoEntry → ⊥)
+  fuel-ok : judge_fuel v ≡ fine → 2 < line_method v → (0 < v.batches) × (coefficients_of v.head ≡ None → ⊥)
   unfolding judge_fuel
   fuel-ok e l =
       let a = passed 6 0 (ltb 0 v.batches) _ refl (pick_not_le _ _ _ _ _ l refl ∙ e) in

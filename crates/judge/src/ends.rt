@@ -1,53 +1,46 @@
 // An end judged: 2, then 6 and 7 by the line's method.
 ghost use Rattle.std.specs.Prelude.{◌≡◌};
+ghost use Rattle.rules.specs.Refusals.{told};
 ghost use Rattle.rules.specs.Judge.{first, judge_entry, place_end, judge_fuel, judge_method};
 
-use crate::faults::{first_of, refuse_unless};
-use rules::{Coefficients, FINE, Fault, View};
+use crate::ensure::ensure;
+use rules::{Coefficients, Method, Refusal, Refused, View};
 
 // "No table entry."
-fn judge_entry(entry: Coefficients) -> Fault
-    ensures { result ≡ judge_entry entry }
+fn judge_entry(entry: Option<Coefficients>) -> Result<(), Refused>
+    ensures { told result ≡ judge_entry entry }
 {
-    match entry {
-        Coefficients::Balance(_, _) => FINE,
-        Coefficients::Oxides(_) => FINE,
-        Coefficients::Dust(_, _) => FINE,
-        Coefficients::NoEntry => Fault {
-            number: 7,
-            place: 0,
-        },
-    }
+    ensure(entry.is_some(), Refusal::NoEntry, 0)
 }
 
 // "6, then 7, at the line's end record", for methods 3 and 4. The head is copied out, and only here: else the whole view is laid out in memory at every end.
-fn judge_fuel(v: View) -> Fault
-    ensures { result ≡ judge_fuel v }
+fn judge_fuel(v: View) -> Result<(), Refused>
+    ensures { told result ≡ judge_fuel v }
 {
-    if crate::line_method(v) <= 2 {
-        return FINE;
+    match crate::line_method(v) {
+        Method::Automatic | Method::Manual => Ok(()),
+        Method::Balance | Method::Coefficient => {
+            ensure(v.batches > 0, Refusal::NoBatch, 0)?;
+            judge_entry(tables::coefficients(v.head))
+        }
     }
-    let h = v.head;
-    first_of(
-        refuse_unless(6, v.batches > 0),
-        judge_entry(tables::coefficients(h)),
-    )
 }
 
 // "18, no method left", of water; a line of a stack has 6 and 7.
-fn judge_method(v: View) -> Fault
-    ensures { result ≡ judge_method v }
+fn judge_method(v: View) -> Result<(), Refused>
+    ensures { told result ≡ judge_method v }
 {
     if v.water {
-        return refuse_unless(18, crate::daily_method(v) > 0);
+        return ensure(crate::daily_method(v).is_some(), Refusal::NoMethod, 0);
     }
     judge_fuel(v)
 }
 
 // Outside a line, before the last day; then the line's method.
-pub fn judge_end(v: View) -> Fault
-    ensures { result ≡ first (place_end v) (judge_method v) }
+pub fn judge_end(v: View) -> Result<(), Refused>
+    ensures { told result ≡ first (place_end v) (judge_method v) }
 {
-    let placed = (v.inside | v.water) & (v.days == v.head.days as u32);
-    first_of(refuse_unless(2, placed), judge_method(v))
+    let placed = (v.inside | v.water) & (v.days == u32::from(v.head.days));
+    ensure(placed, Refusal::OutOfPlace, 0)?;
+    judge_method(v)
 }

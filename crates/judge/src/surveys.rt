@@ -1,63 +1,104 @@
-// A survey judged: out of place 2, by its kind; then 17, 4, 5.
-ghost use Rattle.std.specs.Prelude.{◌&&◌, ◌≡◌, leb, eqb};
+// A survey judged: out of place 2, by its kind; then 17, 4, 5. One function for both kinds and both worlds.
+ghost use Rattle.std.specs.Prelude.{◌≡◌};
+ghost use Rattle.rules.specs.Refusals.{told};
 ghost use Rattle.rules.specs.Fields.{survey_fields};
-ghost use Rattle.rules.specs.Judge.{first, first_wrong, place_enforcement, place_plant, surveys_left, judge_survey};
+ghost use Rattle.rules.specs.Judge.{first, first_wrong, runs_on};
+ghost use Rattle.judge.specs.Surveys.{place_survey, inside_of, period_of, runs_in, judge_survey_of};
 
-use crate::faults::{first_of, refuse_unless, wrong_or};
-use rules::{Fault, Survey, View};
+use crate::ensure::ensure;
+use rules::{Refusal, Refused, Survey, View};
 
-// Outside a line, before the last day, after fuel, hours not rising, one too many: "at most 120 surveys of both kinds together".
-fn in_place(inside: bool, v: View, floor: u32, hour: u16) -> bool
-    ensures { result ≡ (inside && eqb v.days v.head.days && eqb v.batches 0 && leb floor hour && surveys_left v) }
-{
-    let phase = inside & (v.days == v.head.days as u32) & (v.batches == 0);
-    let left = (v.enforcement.count as u64) + (v.plant.count as u64) < 120;
-    phase & (hour as u32 >= floor) & left
+// Who measured a survey.
+#[derive(Clone, Copy, PartialEq, Eq)]
+pub enum Kind {
+    Enforcement,
+    Plant,
 }
 
-// An enforcement survey has no plant survey before it.
-pub fn place_enforcement(inside: bool, v: View, s: Survey) -> Fault
-    ensures { result ≡ place_enforcement inside v s }
-{
-    let placed = (v.plant.count == 0) & in_place(inside, v, v.enforcement.floor, s.hour);
-    refuse_unless(2, placed)
+// What a survey names: an hour of a stack, or a day of an outfall.
+#[derive(Clone, Copy, PartialEq, Eq)]
+pub enum World {
+    Air,
+    Water,
 }
 
-pub fn place_plant(inside: bool, v: View, s: Survey) -> Fault
-    ensures { result ≡ place_plant inside v s }
-{
-    refuse_unless(2, in_place(inside, v, v.plant.floor, s.hour))
+impl World {
+    // Whether the line that is open is of this world.
+    fn is_open(self, v: View) -> bool
+        ensures { result ≡ inside_of self v }
+    {
+        match self {
+            World::Air => v.inside,
+            World::Water => v.water,
+        }
+    }
+
+    // The hours or days of the line's period.
+    fn period(self, v: View) -> u32
+        ensures { result ≡ period_of self v }
+    {
+        let days = u32::from(v.head.days);
+        match self {
+            World::Air => 24 * days,
+            World::Water => days,
+        }
+    }
+
+    // Whether an hour or a day of the period so far runs: by the run masks of the days of a stack, by the states of those of an outfall.
+    fn runs(self, runs: &[u32], at: u16) -> bool
+        ensures { result ≡ runs_in self runs.now at }
+    {
+        match self {
+            World::Air => hours::runs_at(runs, at),
+            World::Water => runs_on(runs, at),
+        }
+    }
 }
 
-// The hour within the period, 17, then the readings, 4.
-pub fn range_survey(period: u32, s: Survey) -> Fault
-    ensures { result ≡ first_wrong (survey_fields period s) }
+// The state of a day of the period so far is not 0; past it no day runs.
+fn runs_on(states: &[u32], day: u16) -> bool
+    ensures { result ≡ runs_on states.now day }
 {
-    let unfit = day::judge_pair(6, s.pair);
-    wrong_or(17, 4, (s.hour as u32) < period, unfit)
+    states.get(usize::from(day)).is_some_and(|state| *state > 0)
 }
 
-// "Survey hour past the period", then its readings, then its hour: "survey in a stopped hour".
-fn judge_survey(v: View, runs: &[u32], s: Survey) -> Fault
-    ensures { result ≡ judge_survey v runs.now s }
+// Outside a line of its world, before the last day, after fuel, not rising within its kind, one too many: "at most 120 surveys of both kinds together". An enforcement
+// survey has no plant survey before it.
+fn place_survey(kind: Kind, inside: bool, v: View, s: Survey) -> Result<(), Refused>
+    ensures { told result ≡ place_survey kind inside v s }
 {
-    let wrong = range_survey(24 * (v.head.days as u32), s);
-    let stopped = refuse_unless(5, hours::runs_at(runs, s.hour));
-    first_of(wrong, stopped)
+    let (turn, floor) = match kind {
+        Kind::Enforcement => ((v.plant.count == 0), v.enforcement.floor),
+        Kind::Plant => (true, v.plant.floor),
+    };
+    let phase = inside & (v.days == u32::from(v.head.days)) & (v.batches == 0);
+    let left = crate::surveys_of(v) < 120;
+    ensure(
+        turn & phase & (u32::from(s.hour) >= floor) & left,
+        Refusal::OutOfPlace,
+        0,
+    )
 }
 
-// Kind 3.
-pub fn judge_enforcement(v: View, runs: &[u32], s: Survey) -> Fault
-    ensures { result ≡ first (place_enforcement v.inside v s) (judge_survey v runs.now s) }
+// "Survey hour past the period", 17, then its readings, 4.
+fn range_survey(period: u32, s: Survey) -> Result<(), Refused>
+    ensures { told result ≡ first_wrong (survey_fields period s) }
 {
-    let misplaced = place_enforcement(v.inside, v, s);
-    let wrong = judge_survey(v, runs, s);
-    first_of(misplaced, wrong)
+    ensure(u32::from(s.hour) < period, Refusal::PastPeriod, 4)?;
+    day::judge_pair(6, s.pair)
 }
 
-// Kind 4.
-pub fn judge_plant(v: View, runs: &[u32], s: Survey) -> Fault
-    ensures { result ≡ first (place_plant v.inside v s) (judge_survey v runs.now s) }
+// Kinds 3, 4, 11 and 12: where it stands, its hour or day and its readings, then "survey in a stopped hour".
+pub fn judge_survey(
+    world: World,
+    kind: Kind,
+    v: View,
+    runs: &[u32],
+    s: Survey,
+) -> Result<(), Refused>
+    ensures { told result ≡ judge_survey_of world kind v runs.now s }
 {
-    first_of(place_plant(v.inside, v, s), judge_survey(v, runs, s))
+    place_survey(kind, world.is_open(v), v, s)?;
+    range_survey(world.period(v), s)?;
+    ensure(world.runs(runs, s.hour), Refusal::StoppedHour, 0)
 }

@@ -8,7 +8,7 @@ use Rattle.reading.specs.Reading.{flagged_pair, flagged_hour}
 use Rattle.rules.specs.Hours.{measured_of}
 use Rattle.rules.specs.declared.Survey.{Survey}
 use Rattle.line.specs.declared.surveyed.Weighed.{Weighed}
-use Rattle.line.specs.Put.{in_tables, survey_c, survey_l, standing, PutAt}
+use Rattle.line.specs.Put.{in_tables, survey_c, survey_l, standing, nothing, PutAt}
 
 module _ (t : Survey) (r : FlaggedPair) (e : r ≡ flagged_hour (measured_of t.pair)) where
   pub concentration-is : r.concentration ≡ survey_c t
@@ -30,6 +30,10 @@ cell_is m n cells out h e q = e ∙ ap (set cells h) q
 -- what a survey adds, each figure by itself, so that a wrong one is named
 pub adds : (w : Weighed) (c l found : ℕ) → w.count ≡ 1 → w.weight ≡ c * l → w.found ≡ found → w ≡ standing c l found
 adds w c l found p q r = λ i. record { count = p i; weight = q i; found = r i }
+
+-- what nothing adds
+pub nothing-is : (w : Weighed) → (w.count ≡ 0) × ((w.weight ≡ 0) × (w.found ≡ 0)) → w ≡ nothing
+nothing-is w e = λ i. record { count = e.0 i; weight = e.1.0 i; found = e.1.1 i }
 
 -- a survey put in, by what was found
 module _ (t : Survey) (n m : ℕ) {states conc flow states' conc' flow' : List ℕ} {r : Weighed} where

@@ -18,12 +18,12 @@ pub fn row_of(v: View, method: u32, grams: u64, first: u32) -> [u64; 7]
 {
     let h = v.head;
     [
-        h.stack as u64,
-        h.pollutant as u64,
-        method as u64,
+        u64::from(h.stack),
+        u64::from(h.pollutant),
+        u64::from(method),
         grams,
-        v.running as u64,
-        v.missing as u64,
-        first as u64,
+        u64::from(v.running),
+        u64::from(v.missing),
+        u64::from(first),
     ]
 }

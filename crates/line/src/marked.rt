@@ -1,22 +1,13 @@
-// The state and the cells of an hour of a line's period that is measured.
+// A table of the hours or days of a line's period.
 ghost use Rattle.std.specs.Prelude.{◌≡◌, set};
 
-// The state of an hour that is measured; past the states nothing is set.
-pub fn mark_state(hour: u16, states: &mut [u8])
-    ensures { states.new ≡ set states.old hour 2 }
+// The cell of an hour or a day; past the cells nothing is set.
+pub fn put<T: Copy>(hour: u16, value: T, cells: &mut [T])
+    ensures { cells.new ≡ set cells.old hour value }
 {
-    let h = hour as usize;
-    if h < states.len() {
-        states[h] = 2;
-    }
-}
-
-// The cell of an hour; past the cells nothing is set.
-pub fn put_cell(hour: u16, v: u32, cells: &mut [u32])
-    ensures { cells.new ≡ set cells.old hour v }
-{
-    let h = hour as usize;
-    if h < cells.len() {
-        cells[h] = v;
+    let hour = usize::from(hour);
+    // Kept: of a write through `get_mut` no proof knows what the slice holds.
+    if hour < cells.len() {
+        cells[hour] = value;
     }
 }

@@ -1,17 +1,20 @@
 // A survey put in at its hour of a line's period, and weighed; what it does to its hour, or to its day of an outfall.
 ghost use Rattle.std.specs.Prelude.{◌≡◌};
-ghost use Rattle.line.specs.Put.{in_tables, nothing, PutAt, SurveyPut};
+ghost use Rattle.line.specs.Put.{in_tables, PutAt, SurveyPut};
 
-use crate::marked::{mark_state, put_cell};
+use crate::marked::put;
 use rules::Survey;
 
 // What a survey adds to those of a line: one hour and its c x l, or nothing; and how many missing hours fewer the line has.
-#[derive(Clone, Copy)]
+#[derive(Clone, Copy, Debug, Default, PartialEq, Eq)]
 pub struct Weighed {
     pub count: u32,
     pub weight: u64,
     pub found: u32,
 }
+
+// The state of an hour or a day that is measured.
+const MEASURED: u8 = 2;
 
 // A survey that stands, at its hour or day: rounded, measured with its readings, and weighed.
 pub fn put_at(
@@ -25,24 +28,13 @@ pub fn put_at(
 {
     let p = t.pair;
     let f = reading::flagged_pair(p.concentration, p.flow);
-    mark_state(t.hour, states);
-    put_cell(t.hour, f.concentration, conc);
-    put_cell(t.hour, f.flow, flow);
+    put(t.hour, MEASURED, states);
+    put(t.hour, f.concentration, conc);
+    put(t.hour, f.flow, flow);
     Weighed {
         count: 1,
-        weight: (f.concentration as u64) * (f.flow as u64),
+        weight: u64::from(f.concentration) * u64::from(f.flow),
         found,
-    }
-}
-
-// What a beaten survey adds.
-pub fn none_added() -> Weighed
-    ensures { result ≡ nothing }
-{
-    Weighed {
-        count: 0,
-        weight: 0,
-        found: 0,
     }
 }
 
@@ -61,7 +53,7 @@ pub fn put_survey(
         (in_tables measured.new states.new conc.new flow.new) result }
 {
     if beaten {
-        return none_added();
+        return Weighed::default();
     }
     let found = hours::mark_measured(runs, measured, t.hour);
     put_at(t, found, states, conc, flow)

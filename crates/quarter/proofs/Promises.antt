@@ -1,5 +1,6 @@
 -- The ways out of the account call, from what the walk promises. Assumes nothing.
-use mathlib.Core.Path.{◌≡◌, refl, ◌∙◌, sym, ap, ap₂}
+use Rattle.std.specs.Prelude.{Result, Ok, Err}
+use mathlib.Core.Path.{◌≡◌, refl, ◌∙◌, sym, ap, ap₂, subst}
 use mathlib.Core.Bool.{Bool, true, false, true≢false}
 use mathlib.Core.List.{List, [], ◌++◌}
 use Prim.Native.Nat.{ℕ, ◌-◌, ◌*◌, ◌<◌, ◌≤◌, min}
@@ -7,11 +8,14 @@ use native.Mathlib.Omega.{arith}
 use lib.ListN.{length, take, drop, get_or, length-append, length-drop}
 use lib.Seq.{take_at, drop_at}
 use lib.Dec.{leb}
-use borrow.Author.Tests.{le-leb, lt-leb, leb-true}
+use borrow.Author.Tests.{le-leb, lt-leb, leb-true, eqb-false}
 use Rattle.law.specs.Numbers.{most_hours, most_cells}
 use Rattle.law.specs.Words.{need, over}
 use Rattle.law.proofs.Tabled.{table_is}
-use Rattle.rules.specs.Refusals.{Answer}
+use Rattle.rules.specs.declared.Refused.{Refused}
+use Rattle.rules.specs.declared.Account.{Account}
+use Rattle.rules.specs.Refusals.{number_of, Answer, answered}
+use Rattle.rules.proofs.Refusals.{numbered}
 use Rattle.rules.specs.Outfalls.{Line}
 use Rattle.rules.specs.Judge.{refuse}
 use Rattle.rules.specs.Row.{rows_of, cells, concentration_cells, flow_cells}
@@ -20,14 +24,11 @@ use Rattle.answers.specs.Answers.{Stated}
 use Rattle.answers.proofs.Answers.{stated, denied}
 use Rattle.answers.proofs.Rows.{rows_long}
 use Rattle.cells.proofs.Parts.{first-all}
+use Rattle.walk.specs.declared.Walked.{Walked}
 use Rattle.walk.specs.Books.{no_rows}
+use Rattle.walk.specs.Walking.{walked_answer, walked_rows}
 use Rattle.walk.proofs.Going.{zeros}
 use Rattle.walk.proofs.Promises.{no_rows-long}
-
--- the first 2,208 cells cleared hold no line's hours
-pub cleared : (xs ys : List ℕ) → most_hours ≤ length xs → ys ≡ over (λ h. 0) (min most_hours (length xs)) xs → ys ≡ cells [] ++ drop most_hours xs
-unfolding cells
-cleared xs ys l e = e ∙ first-all xs most_hours l ∙ ap (λ (t : List ℕ). t ++ drop most_hours xs) (zeros most_hours)
 
 -- the cells past 2,208 stand as they were
 past-kept : (cs xs ys : List ℕ) → ys ≡ cs ++ drop most_hours xs → length ys ≡ length xs → most_hours ≤ length xs → drop most_hours ys ≡ drop most_hours xs
@@ -36,15 +37,11 @@ past-kept cs xs ys e l m =
     ap (drop most_hours) e ∙ drop_at cs (drop most_hours xs) most_hours n
 
 -- the rows that are copied are those of the lines
-copied : (lines : List Line) (t rows rows' : List ℕ) (n : ℕ) → n ≡ 7 * length lines → t ≡ rows_of lines ++ drop (7 * length lines) no_rows → n ≤ length rows
-    → rows' ≡ over (λ k. get_or (take (n - 0) (drop 0 t)) k 0) (min (length (take (n - 0) (drop 0 t))) (length rows)) rows → rows' ≡ rows_of lines ++ drop (7 * length lines) rows
-copied lines t rows rows' n q e l o =
-    let z : n - 0 ≡ 7 * length lines = omega (arith, q) in
-    let front : take (n - 0) (drop 0 t) ≡ rows_of lines = ap₂ take z e ∙ take_at (rows_of lines) (drop (7 * length lines) no_rows) (7 * length lines) (rows_long lines) in
-    let size : min (length (rows_of lines)) (length rows) ≡ 7 * length lines = omega (arith, rows_long lines, l, q) in
-    o ∙ ap (λ (s : List ℕ). over (λ k. get_or s k 0) (min (length s) (length rows)) rows) front
-    ∙ ap (λ (m : ℕ). over (λ k. get_or (rows_of lines) k 0) m rows) size
-    ∙ ap (λ (s : List ℕ). s ++ drop (7 * length lines) rows) (sym (table_is (λ k. get_or (rows_of lines) k 0) (7 * length lines) 0 (rows_of lines) (rows_long lines) (λ k m. refl)))
+copied : (lines : List Line) (t rows rows' : List ℕ) (n : ℕ) → n ≡ 7 * length lines → t ≡ rows_of lines ++ drop (7 * length lines) no_rows → rows' ≡ take n t ++ drop n rows
+    → rows' ≡ rows_of lines ++ drop (7 * length lines) rows
+copied lines t rows rows' n q e o =
+    let front : take n t ≡ rows_of lines = ap₂ take q e ∙ take_at (rows_of lines) (drop (7 * length lines) no_rows) (7 * length lines) (rows_long lines) in
+    o ∙ ap₂ (λ (s r : List ℕ). s ++ r) front (ap (λ (k : ℕ). drop k rows) q)
 
 module _ (file conc flow : List ℕ) (a : Answer) (t conc' flow' : List ℕ) (p : Promise file no_rows conc flow a t conc' flow') where
   -- the number is 0: both work slices are long enough
@@ -126,8 +123,7 @@ module _ (file conc flow : List ℕ) (a : Answer) (t conc' flow' : List ℕ) (p 
         }
 
     -- the file is accepted, and its rows are copied
-    pub promise_0 : (z : a.number ≡ 0) (m : ℕ) → m ≡ 7 * a.rows → m ≤ length rows → (rows' : List ℕ)
-        → rows' ≡ over (λ k. get_or (take (m - 0) (drop 0 t)) k 0) (min (length (take (m - 0) (drop 0 t))) (length rows)) rows → Promise file rows conc flow a rows' conc' flow'
+    pub promise_0 : (z : a.number ≡ 0) (m : ℕ) → m ≡ 7 * a.rows → m ≤ length rows → (rows' : List ℕ) → rows' ≡ take m t ++ drop m rows → Promise file rows conc flow a rows' conc' flow'
     unfolding answer_of rows_after work_after answer_from rows_from cells_from rows_fit need
     promise_0 z m e l rows' o =
         let s = lines_of z in
@@ -135,7 +131,21 @@ module _ (file conc flow : List ℕ) (a : Answer) (t conc' flow' : List ℕ) (p 
         let k = work_fits_here z in
         record {
           answers = s.answers ∙ rw (k, s.accepted, n);
-          leaves = copied s.lines t rows rows' m (omega (arith, rows_are z, e)) s.leaves l o ∙ rw (k, s.accepted, n);
+          leaves = copied s.lines t rows rows' m (omega (arith, rows_are z, e)) s.leaves o ∙ rw (k, s.accepted, n);
           concentrations_hold = conc_held z ∙ rw (k, s.accepted, n);
           flows_hold = flow-held z ∙ rw (k, s.accepted, n);
         }
+
+-- ---- the same of a walk that is asked by `?`
+module _ (file conc flow conc' flow' : List ℕ) (r : Result Walked Refused) (p : Promise file no_rows conc flow (walked_answer r) (walked_rows r) conc' flow') where
+  -- the walk refuses
+  pub asked_refused : (f : Refused) → r ≡ Err f → (x : Result Account Refused) → x ≡ Err f → (rows : List ℕ) → Promise file rows conc flow (answered x) rows conc' flow'
+  unfolding answered
+  asked_refused f e x q rows =
+      subst (λ (y : Result Account Refused). Promise file rows conc flow (answered y) rows conc' flow') (sym q)
+      (promise_refused file conc flow (answered (Err f)) no_rows conc' flow' (subst (λ (y : Result Walked Refused). Promise file no_rows conc flow (walked_answer y) (walked_rows y) conc' flow') e p) rows
+      (eqb-false (number_of f.refusal) 0 (numbered f.refusal)))
+
+  -- and where it accepts, its answer is numbered 0
+  pub asked : (w : Walked) → r ≡ Ok w → Promise file no_rows conc flow (answered (Ok w.account)) w.rows conc' flow'
+  asked w e = subst (λ (y : Result Walked Refused). Promise file no_rows conc flow (walked_answer y) (walked_rows y) conc' flow') e p

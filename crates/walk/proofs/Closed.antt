@@ -19,8 +19,8 @@ use Rattle.walk.specs.Taking.{LineStated, EndReady, EndTaken, WaterEndReady}
 use Rattle.hours.specs.States.{state_at, period_states}
 use Rattle.rules.specs.Hours.{first_missing}
 use Rattle.fills.proofs.Period.{period_now, period_filled, period_plain}
-use Rattle.walk.specs.declared.take.Taken.{Taken}
-use Rattle.walk.specs.Books.{Done}
+use Rattle.walk.specs.declared.books.Taken.{Taken}
+use Rattle.walk.specs.declared.books.Done.{Done}
 use Rattle.walk.specs.Views.{ran_by, lacks_by}
 use Rattle.rules.specs.Judge.{line_method, daily_method}
 use Rattle.law.proofs.Tabled.{table_length}

@@ -1,4 +1,5 @@
 -- The end of a line: its grams, its row and its cells are those of the rules. Assumes nothing.
+use Rattle.std.specs.Prelude.{None}
 use mathlib.Core.Path.{◌≡◌, refl, ◌∙◌, sym, ap, ap₂, subst}
 use mathlib.Core.Bool.{Bool, true, false}
 use mathlib.Core.List.{List, [], ◌∷◌, ◌++◌, map, append_assoc}
@@ -15,7 +16,6 @@ use Rattle.law.specs.Words.{need, pick, sum_of, table, over, halves_up}
 use Rattle.law.proofs.Tabled.{table_length, table_at, table_set}
 use Rattle.rules.specs.declared.Head.{Head}
 use Rattle.rules.specs.declared.View.{View}
-use Rattle.rules.specs.declared.Coefficients.TheVariants.{NoEntry}
 use Rattle.rules.specs.Hours.{running, lacking, run_masks, measured_masks, first_missing}
 use Rattle.rules.specs.Lines.{StackLine, days_after, hours, surveys, fuel}
 use Rattle.rules.specs.Outfalls.{Line, OfStack, head_of_line}
@@ -34,9 +34,10 @@ use Rattle.fills.proofs.Products.{products-amounts}
 use Rattle.fuel.specs.Fuel.{ash_of, fuel_figure}
 use Rattle.fuel.proofs.Figures.{line_figure}
 use Rattle.walk.specs.declared.books.Sums.{Sums}
-use Rattle.walk.specs.declared.take.Taken.{Taken}
+use Rattle.walk.specs.declared.books.Taken.{Taken}
+use Rattle.walk.specs.declared.books.Done.{Done}
 use Rattle.walk.specs.Views.{after_end}
-use Rattle.walk.specs.Books.{no_rows, put_from, values_at, Open, in_open, Done, DoneKept, CellsKept, Kept}
+use Rattle.walk.specs.Books.{no_rows, put_from, values_at, Open, in_open, DoneKept, CellsKept, Kept}
 use Rattle.walk.specs.Closing.{grams_in, period_weight, LineGrams, with_grams}
 use Rattle.walk.specs.Taking.{EndTaken}
 use Rattle.hours.specs.States.{period_states}
@@ -165,7 +166,7 @@ module _ (line : Line) (done : List Line) (v : View) (d d' : Done) (m g first : 
 
 module _ (x : StackLine) (done : List Line) (v : View) (s : Sums) (o : Open) (d : Done)
     (k : Kept (Inside x done) v s o d) (all_days : length x.days ≡ x.head.days)
-    (entry : (method x ≡ 1 → ⊥) → (method x ≡ 2 → ⊥) → coefficients_of x.head ≡ NoEntry → ⊥)
+    (entry : (method x ≡ 1 → ⊥) → (method x ≡ 2 → ⊥) → coefficients_of x.head ≡ None → ⊥)
   where
     few : length x.days ≤ most_days
     few = omega (arith, k.books.period)

@@ -11,7 +11,11 @@ use Rattle.law.specs.Numbers.{most_days, most_hours, most_cells, total_cells}
 use Rattle.law.specs.Words.{need, pick, sum_of, table}
 use Rattle.law.proofs.Over.{part-whole}
 use Rattle.law.proofs.Tabled.{table_is}
-use Rattle.rules.specs.Refusals.{Fault}
+use Rattle.std.specs.Prelude.{Result, Ok, Err}
+use Rattle.rules.specs.declared.Refused.{Refused as RefusedAt}
+use Rattle.rules.specs.declared.Refusal.TheVariants.{OutOfPlace}
+use Rattle.rules.specs.Refusals.{Fault, number_of, fault_in, told}
+use Rattle.rules.proofs.Refusals.{numbered}
 use Rattle.rules.specs.declared.Record.{Record}
 use Rattle.rules.specs.declared.Record.TheVariants.{Bad}
 use Rattle.rules.specs.declared.View.{View}
@@ -20,17 +24,18 @@ use Rattle.rules.specs.OnPaper.{record_on_paper}
 use Rattle.rules.proofs.OnPaper.{record_only}
 use Rattle.rules.specs.Judge.{refuse, fine, first, judge_record, judge_readings, judge, at_place}
 use Rattle.rules.specs.Row.{rows_of, total_of, totals_of, cells, concentration_cells, flow_cells}
-use Rattle.rules.specs.Walk.{Stand, Between, Inside, InWater, view_of, runs_of, taken, ended, fault_of, walk, Refused, outcome}
+use Rattle.rules.specs.Walk.{Stand, Between, Inside, InWater, no_head, view_of, runs_of, taken, ended, fault_of, walk, Refused, outcome}
 use Rattle.rules.proofs.Faults.{Within, stands_zero, at_place-number}
 use Rattle.rules.proofs.Records.{size_some, record_whole}
 use Rattle.judge.proofs.Laws.{record_stands, record_within, readings-within, judge-refused, judge-passed, bad_refused}
 use Rattle.walk.specs.declared.books.Sums.{Sums}
-use Rattle.walk.specs.declared.take.Taken.{Taken}
-use Rattle.walk.specs.declared.turns.Progress.{Progress}
-use Rattle.walk.specs.declared.turns.Tally.{Tally}
-use Rattle.walk.specs.Views.{at_start, moved_on, found_of}
-use Rattle.walk.specs.Books.{no_rows, Open, in_open, Done, in_done, Kept}
-use Rattle.walk.specs.Walking.{SomeReady, Took, Takes, Going, Reached, Ended, WalkPromise}
+use Rattle.walk.specs.declared.books.Taken.{Taken}
+use Rattle.walk.specs.declared.books.Done.{Done}
+use Rattle.walk.specs.declared.Walked.{Walked}
+use Rattle.walk.specs.Views.{opened_view, behind}
+use Rattle.walk.specs.Books.{no_rows, Open, Kept}
+use Rattle.walk.specs.Walking.{Ready, Took, Takes, Stepped, Steps, Going, Ended}
+use Rattle.walk.proofs.Asked.{refused_none}
 use Rattle.walk.proofs.Cleared.{replicate_zero, cells-past}
 use Rattle.walk.proofs.Views.{view_start}
 
@@ -63,14 +68,14 @@ module _ (file : List ℕ) (at : ℕ) (stand : Stand) where
 pub zeros : (n : ℕ) → table {A = ℕ} (λ h. 0) n ≡ replicate n 0
 zeros n = sym (table_is (λ h. 0) n 0 (replicate n 0) (length-replicate n 0) (λ k l. get_or-replicate n k 0 0 l))
 
-pub reached_start : (file runs measured states flags conc flow rows totals : List ℕ) (p : Progress) → length runs ≡ most_days → length measured ≡ most_days → length states ≡ most_hours → flags ≡ replicate most_hours 0
-    → rows ≡ no_rows → totals ≡ replicate total_cells 0
-    → conc ≡ cells [] → flow ≡ cells [] → p ≡ at_start → Reached file p (in_open runs measured states flags conc flow) (in_done rows totals)
-unfolding fine outcome records_of rows_of totals_of total_of sum_of concentration_cells flow_cells cells no_rows
-reached_start file runs measured states flags conc flow rows totals p rl ml sl g ol tl c f q =
-    let kept : Kept (Between []) at_start.view at_start.sums (in_open runs measured states flags conc flow) (in_done rows totals) =
+pub going_start : (file : List ℕ) (v : View) (s : Sums) (o : Open) (d : Done) → v ≡ opened_view false false 0 0 no_head → s.used ≡ 0
+    → length o.runs ≡ most_days → length o.measured ≡ most_days → length o.states ≡ most_hours → o.flags ≡ replicate most_hours 0
+    → o.concentrations ≡ cells [] → o.flows ≡ cells [] → d.rows ≡ no_rows → d.totals ≡ replicate total_cells 0 → Going file v s 0 o d
+unfolding outcome records_of rows_of totals_of total_of sum_of concentration_cells flow_cells cells no_rows
+going_start file v s o d ve se rl ml sl g c f ol tl =
+    let kept : Kept (Between []) v s o d =
     record {
-      view = view_start;
+      view = ve ∙ view_start;
       lines = omega arith;
       done =
           record {
@@ -92,17 +97,13 @@ reached_start file runs measured states flags conc flow rows totals p rl ml sl g
           record {
             conc_held_here = c;
             flow_held = f;
-            used_most = omega arith;
+            used_most = omega (arith, se);
             flags_past = λ h l. ap (λ (t : List ℕ). get_or t h 0) g ∙ replicate_zero most_hours h;
-            conc_past = λ h l. ap (λ (t : List ℕ). get_or t h 0) c ∙ cells-past [] 0 h (omega arith) l;
-            flow_past = λ h l. ap (λ (t : List ℕ). get_or t h 0) f ∙ cells-past [] 0 h (omega arith) l;
+            conc_past = λ h l. ap (λ (t : List ℕ). get_or t h 0) c ∙ cells-past [] 0 h (omega arith) (omega arith);
+            flow_past = λ h l. ap (λ (t : List ℕ). get_or t h 0) f ∙ cells-past [] 0 h (omega arith) (omega arith);
           };
     } in
-    rw q (record {
-      refuses = λ n. absurd (n refl);
-      reads = λ _. refl;
-      goes = λ _. record { stand = Between []; most = length file; kept = kept; within = omega arith; enough = omega arith; rest = refl };
-    })
+    record { stand = Between []; most = length file; kept = kept; within = omega arith; enough = omega arith; rest = refl }
 
 -- ---- a record is judged
 -- the run masks that are lent to the judge
@@ -112,96 +113,100 @@ lent_stand (Between done) v s o d k = ap (λ (w : View). take w.days o.runs) k.v
 lent_stand (Inside x done) v s o d k = ap (λ (w : View). take w.days o.runs) k.view ∙ k.books.masks.runs_kept
 lent_stand (InWater x done) v s o d k = ap (λ (w : View). take w.days o.runs) k.view ∙ k.books.runs
 
-module _ (file : List ℕ) (v : View) (s : Sums) (at : ℕ) (o : Open) (d : Done) (g : Going file v s at o d) (more : at < length file) where
-  abbrev bytes : List ℕ
-  bytes = take (length file - at) (drop at file)
+numbered_told : {A : Type 0} (t : Result A RefusedAt) (f : RefusedAt) → t ≡ Err f → (told t).number ≡ 0 → ⊥
+unfolding told fault_in
+numbered_told t f e z = eqb-false (number_of f.refusal) 0 (numbered f.refusal) (sym (ap (λ (x : Result _ RefusedAt). (told x).number) e) ∙ z)
 
-  -- what refuses the record where the walk stands
-  found_here : judge v (runs_of g.stand) bytes ≡ verdict file at g.stand
-  found_here = ap (λ (w : View). judge w (runs_of g.stand) bytes) g.kept.view ∙ ap (judge (view_of g.stand) (runs_of g.stand)) (part-whole at file)
-
-  -- a record that is refused: the walk stops there, with nothing more to read
-  stops : (t : Taken) (o' : Open) (d' : Done) → t.fault ≡ judge v (runs_of g.stand) bytes → (t.fault.number ≡ 0 → ⊥)
-      → Reached file (record { fault = at_place at t.fault; at = length file; view = t.view; sums = t.sums }) o' d' × (at < length file)
-  stops t o' d' e n =
-      let q = e ∙ found_here in
-      let m : (verdict file at g.stand).number ≡ 0 → ⊥ = λ z. n (ap (λ (y : Fault). y.number) q ∙ z) in (
-        record {
-          refuses = λ _. sym g.rest ∙ walk_refused file at g.stand g.most more g.enough m ∙ ap (λ (y : Fault). Refused (at_place at y)) (sym q);
-          reads = λ l. absurd (omega arith);
-          goes = λ z. absurd (n (sym (at_place-number at t.fault) ∙ z));
-        },
-        more,
-      )
-
-  -- a fault within the record lies within the file
-  in_file : (f : Fault) → Within (length bytes) f → at + f.place ≤ length file
-  in_file f w = omega (arith, w, ap length (part-whole at file), length-drop at file)
-
-  module _ (r : Record) (paper : record_on_paper r ≡ record_on_paper (record_in bytes)) (f : Fault) (judged : f ≡ judge_record v (take v.days o.runs) r) where
+module _ (stand : Stand) (v : View) (s : Sums) (o : Open) (d : Done) (kept : Kept stand v s o d) (bytes : List ℕ) (r : Record)
+    (paper : record_on_paper r ≡ record_on_paper (record_in bytes)) (j : Result Unit RefusedAt) (judged : told j ≡ judge_record v (take v.days o.runs) r)
+  where
     read : r ≡ record_in bytes
     read = record_only r (record_in bytes) paper
 
-    judged-here : f ≡ judge_record v (runs_of g.stand) r
-    judged-here = judged ∙ ap (λ (l : List ℕ). judge_record v l r) (lent_stand g.stand v s o d g.kept)
+    judged-here : told j ≡ judge_record v (runs_of stand) r
+    judged-here = judged ∙ ap (λ (l : List ℕ). judge_record v l r) (lent_stand stand v s o d kept)
 
-    pub refused_within : at + f.place ≤ length file
-    refused_within = in_file f (subst (Within (length bytes)) (sym (judged-here ∙ ap (judge_record v (runs_of g.stand)) read)) (record_within v (runs_of g.stand) bytes))
+    by_view : judge v (runs_of stand) bytes ≡ judge (view_of stand) (runs_of stand) bytes
+    by_view = ap (λ (w : View). judge w (runs_of stand) bytes) kept.view
 
-    pub step_refused : (f.number ≡ 0 → ⊥) → (q : Progress) → q ≡ moved_on (record { fault = f; view = v; sums = s }) at (length file) (length file) → Reached file q o d × (at < q.at)
-    unfolding pick
-    step_refused n q e =
-        rw (e, ne_eqb f.number 0 n) (stops (record { fault = f; view = v; sums = s }) o d (judge-refused v (runs_of g.stand) bytes r read f judged-here n) n)
+    -- the judge refuses it
+    pub refused_step : (f : RefusedAt) → j ≡ Err f → (t : Result Taken RefusedAt) → t ≡ Err f → (o' : Open) (d' : Done) → Stepped stand bytes t o' d'
+    unfolding told fault_in
+    refused_step f e t is o' d' =
+        let n = numbered_told j f e in
+        let w : Within (length bytes) (told j) = subst (Within (length bytes)) (sym (judged-here ∙ ap (judge_record v (runs_of stand)) read)) (record_within v (runs_of stand) bytes) in
+        record {
+          faults = ap told is ∙ sym (ap told e) ∙ judge-refused v (runs_of stand) bytes r read (told j) judged-here n ∙ by_view;
+          stays = λ u q. absurd (refused_none f u (sym is ∙ q));
+          within = λ g q. omega (arith, w, ap (λ (x : Result Unit RefusedAt). (told x).place) e, ap (λ (x : Result Taken RefusedAt). (told x).place) (sym is ∙ q));
+        }
 
-    module _ (zero-f : f.number ≡ 0) where
-      is_fine : judge_record v (runs_of g.stand) r ≡ fine
-      is_fine = stands_zero _ (record_stands v (runs_of g.stand) r) (ap (λ (x : Fault). x.number) (sym judged-here) ∙ zero-f)
+    module _ (passes : j ≡ Ok tt) where
+      is_fine : judge_record v (runs_of stand) r ≡ fine
+      unfolding told fine
+      is_fine = sym judged-here ∙ ap told passes
 
-      pub ready : SomeReady bytes r v s o d
-      ready = record { stand = g.stand; ready = record { kept = g.kept; read = read; passed = is_fine } }
+      pub ready : Ready stand bytes r v s o d
+      ready = record { kept = kept; read = read; passed = is_fine }
 
       not_bad : record_in bytes ≡ Bad → ⊥
-      not_bad q = bad_refused v (runs_of g.stand) (ap (judge_record v (runs_of g.stand)) (sym q ∙ sym read) ∙ is_fine)
+      not_bad q = bad_refused v (runs_of stand) (ap (judge_record v (runs_of stand)) (sym q ∙ sym read) ∙ is_fine)
 
-      pub fits : at + size_in bytes ≤ length file
-      fits = omega (arith, record_whole bytes not_bad, ap length (part-whole at file), length-drop at file)
+      -- it is taken in, or one of a day's readings is refused
+      pub taken_step : (t : Result Taken RefusedAt) (o' : Open) (d' : Done) → Takes bytes r v s o d o' d' t → Stepped stand bytes t o' d'
+      unfolding told fault_in ready fine
+      taken_step t o' d' takes =
+          let mine : Took stand bytes r t o' d' = takes stand ready in
+          let w : Within (length bytes) (told t) = subst (Within (length bytes)) (sym (mine.faults ∙ ap (judge_readings bytes) read)) (readings-within bytes) in
+          record {
+            faults = mine.faults ∙ judge-passed v (runs_of stand) bytes r read (told j) judged-here (ap (λ (x : Result Unit RefusedAt). (told x).number) passes) ∙ by_view;
+            stays = λ u q. (subst (λ (x : Record). Kept (taken stand bytes x) u.view u.sums o' d') read (mine.stays u q), record_whole bytes not_bad);
+            within = λ f q. omega (arith, w, ap (λ (x : Result Taken RefusedAt). (told x).place) q);
+          }
 
-      module _ (t : Taken) (o' : Open) (d' : Done) (takes : Takes bytes r v s o d o' d' t) where
-        mine : Took g.stand bytes r t o' d'
-        unfolding ready
-        mine = takes g.stand ready.ready
+-- ---- a turn of the loop
+module _ (file : List ℕ) (v : View) (s : Sums) (at : ℕ) (o : Open) (d : Done) (g : Going file v s at o d) (more : at < length file)
+    (t : Result Taken RefusedAt) (o' : Open) (d' : Done)
+  where
+    abbrev bytes : List ℕ
+    bytes = take (length file - at) (drop at file)
 
-        pub taken-within : at + t.fault.place ≤ length file
-        taken-within = in_file t.fault (subst (Within (length bytes)) (sym (mine.faults ∙ ap (judge_readings bytes) read)) (readings-within bytes))
+    module _ (steps : Steps bytes v s o d o' d' t) where
+      mine : Stepped g.stand bytes t o' d'
+      mine = steps g.stand g.kept
 
-        later : t.fault ≡ judge v (runs_of g.stand) bytes
-        later = mine.faults ∙ judge-passed v (runs_of g.stand) bytes r read f judged-here zero-f
+      here-is : told t ≡ verdict file at g.stand
+      here-is = mine.faults ∙ ap (judge (view_of g.stand) (runs_of g.stand)) (part-whole at file)
 
-        goes : t.fault.number ≡ 0 → Going file t.view t.sums (at + size_in bytes) o' d'
-        goes z =
-            let here-fine = ap (λ (y : Fault). y.number) (sym (later ∙ found_here)) ∙ z in
-            let on = walk-on file at g.stand g.most more g.enough here-fine in
-            let same = part-whole at file in
-            record {
-              stand = taken g.stand (here file at g.stand) (record_in (here file at g.stand));
-              most = on.0;
-              kept = subst (λ (b : List ℕ). Kept (taken g.stand b (record_in b)) t.view t.sums o' d') same (subst (λ (x : Record). Kept (taken g.stand bytes x) t.view t.sums o' d') read (mine.stays z));
-              within = fits;
-              enough = omega (arith, on.2, ap size_in same);
-              rest = ap (λ (b : List ℕ). walk file (records_from on.0 file (at + size_in b)) (taken g.stand (drop at file) (record_in (drop at file)))) same ∙ sym on.1 ∙ g.rest;
-            }
+      -- its refusal lies within the file, and is the file's
+      pub turn_within : (f : RefusedAt) → t ≡ Err f → at + f.place ≤ length file
+      turn_within f e = omega (arith, mine.within f e, ap length (part-whole at file), length-drop at file)
 
-        moves : (b : Bool) → eqb t.fault.number 0 ≡ b
-            → Reached file (record { fault = at_place at t.fault; at = pick b (at + size_in bytes) (length file); view = t.view; sums = t.sums }) o' d' × (at < pick b (at + size_in bytes) (length file))
-        unfolding pick
-        moves true e =
-            let z = eqb-true t.fault.number 0 e in
-            let p = at_place-number at t.fault ∙ z in
-            (record { refuses = λ n. absurd (n p); reads = λ _. p; goes = λ _. goes z }, omega (arith, size_some bytes))
-        moves false e = stops t o' d' later (eqb-false t.fault.number 0 e)
+      pub turn_refused : (f : RefusedAt) → t ≡ Err f → outcome file ≡ Refused (fault_in (behind at f))
+      unfolding told fault_in at_place need refuse
+      turn_refused f e =
+          let q : verdict file at g.stand ≡ fault_in f = sym here-is ∙ ap told e in
+          let m : (verdict file at g.stand).number ≡ 0 → ⊥ = λ z. numbered_told t f e (ap (λ (y : Fault). y.number) here-is ∙ z) in
+          sym g.rest ∙ walk_refused file at g.stand g.most more g.enough m ∙ ap (λ (y : Fault). Refused (at_place at y)) q ∙ ap Refused (rw (numbered f.refusal) refl)
 
-        pub step_on : (n : ℕ) (q : Progress) → n ≡ size_in bytes → q ≡ moved_on t at (at + n) (length file) → Reached file q o' d' × (at < q.at)
-        step_on n q e m = rw (m, e) (moves (eqb t.fault.number 0) refl)
+      -- it is taken in, and the walk goes on behind it
+      pub turn_goes : (u : Taken) → t ≡ Ok u → Going file u.view u.sums (at + size_in bytes) o' d'
+      unfolding told
+      turn_goes u e =
+          let z : (verdict file at g.stand).number ≡ 0 = ap (λ (y : Fault). y.number) (sym here-is ∙ ap told e) in
+          let on = walk-on file at g.stand g.most more g.enough z in
+          let same = part-whole at file in
+          record {
+            stand = taken g.stand (here file at g.stand) (record_in (here file at g.stand));
+            most = on.0;
+            kept = subst (λ (b : List ℕ). Kept (taken g.stand b (record_in b)) u.view u.sums o' d') same (mine.stays u e).0;
+            within = omega (arith, (mine.stays u e).1, ap length same, length-drop at file);
+            enough = omega (arith, on.2, ap size_in same);
+            rest = ap (λ (b : List ℕ). walk file (records_from on.0 file (at + size_in b)) (taken g.stand (drop at file) (record_in (drop at file)))) same ∙ sym on.1 ∙ g.rest;
+          }
+
+      pub turn_shorter : 0 < size_in bytes
+      turn_shorter = omega (arith, size_some bytes)
 
 -- ---- the file's end
 open_case : (file : List ℕ) (stand : Stand) → ((view_of stand).inside || (view_of stand).water) ≡ true → ended file stand ≡ Refused (refuse 2 (length file))
@@ -210,47 +215,31 @@ open_case file (Between done) e = absurd (true≢false (sym e))
 open_case file (Inside x done) e = refl
 open_case file (InWater x done) e = refl
 
-module _ (file : List ℕ) (p : Progress) (o : Open) (d : Done) (h : Reached file p o d) (over : length file ≤ p.at) where
-  module _ (zero-f : p.fault.number ≡ 0) where
-    g : Going file p.view p.sums p.at o d
-    g = h.goes zero-f
+module _ (file : List ℕ) (v : View) (s : Sums) (at : ℕ) (o : Open) (d : Done) (g : Going file v s at o d) (over : length file ≤ at) where
+  at-end : outcome file ≡ ended file g.stand
+  at-end = sym g.rest ∙ walk-ended file at g.stand g.most over
 
-    at-end : outcome file ≡ ended file g.stand
-    at-end = sym g.rest ∙ walk-ended file p.at g.stand g.most over
+  pub end_open : (v.inside || v.water) ≡ true → outcome file ≡ Refused (fault_in (record { refusal = OutOfPlace; place = length file }))
+  unfolding fault_in refuse
+  end_open e = at-end ∙ open_case file g.stand (sym (ap (λ (w : View). w.inside || w.water) g.kept.view) ∙ e)
 
-    closed_by : (stand : Stand) → stand ≡ g.stand → (p.view.inside || p.view.water) ≡ false → (w : Tally) → w.lines ≡ p.view.lines → Ended file d o.concentrations o.flows w
-    unfolding view_of ended
-    closed_by (Between done) q e w l =
-        let k = subst (λ (x : Stand). Kept x p.view p.sums o d) (sym q) g.kept in
-        record {
-          lines = done;
-          accepted = at-end ∙ ap (ended file) (sym q);
-          count = l ∙ ap (λ (x : View). x.lines) k.view;
-          most = k.lines;
-          rows = k.done.rows;
-          totals = k.done.totals;
-          conc_held_here = k.books.conc_held_here;
-          flow_held = k.books.flow_held;
-        }
-    closed_by (Inside x done) q e w l = absurd (true≢false (sym (ap (λ (x : View). x.inside || x.water) (g.kept.view ∙ ap view_of (sym q))) ∙ e))
-    closed_by (InWater x done) q e w l = absurd (true≢false (sym (ap (λ (x : View). x.inside || x.water) (g.kept.view ∙ ap view_of (sym q))) ∙ e))
-
-  abbrev found_by : Bool → Bool → Tally
-  found_by a b = record { fault = need p.fault a (need (refuse 2 (length file)) (not b) fine); lines = p.view.lines }
-
-  ends_by : (a b : Bool) → eqb p.fault.number 0 ≡ a → (p.view.inside || p.view.water) ≡ b → WalkPromise file d o.concentrations o.flows (found_by a b)
-  unfolding need fine refuse
-  ends_by false b e i = let n = eqb-false p.fault.number 0 e in record { refuses = λ _. h.refuses n; ends = λ z. absurd (n z) }
-  ends_by true true e i =
-      let z = eqb-true p.fault.number 0 e in
+  closed_by : (stand : Stand) → stand ≡ g.stand → (v.inside || v.water) ≡ false → (w : Walked) → w.account.lines ≡ v.lines → w.account.totals ≡ d.totals → w.rows ≡ d.rows
+      → Ended file o.concentrations o.flows w
+  unfolding view_of ended
+  closed_by (Between done) q e w l t r =
+      let k = subst (λ (x : Stand). Kept x v s o d) (sym q) g.kept in
       record {
-        refuses = λ _. at-end z ∙ open_case file (g z).stand (sym (ap (λ (w : View). w.inside || w.water) (g z).kept.view) ∙ i);
-        ends = λ q. absurd (omega arith);
+        lines = done;
+        accepted = at-end ∙ ap (ended file) (sym q);
+        count = l ∙ ap (λ (x : View). x.lines) k.view;
+        most = k.lines;
+        rows = r ∙ k.done.rows;
+        totals = t ∙ k.done.totals;
+        conc_held_here = k.books.conc_held_here;
+        flow_held = k.books.flow_held;
       }
-  ends_by true false e i =
-      let z = eqb-true p.fault.number 0 e in
-      record { refuses = λ n. absurd (n refl); ends = λ _. closed_by z (g z).stand refl i (found_by true false) refl }
+  closed_by (Inside x done) q e w l t r = absurd (true≢false (sym (ap (λ (x : View). x.inside || x.water) (g.kept.view ∙ ap view_of (sym q))) ∙ e))
+  closed_by (InWater x done) q e w l t r = absurd (true≢false (sym (ap (λ (x : View). x.inside || x.water) (g.kept.view ∙ ap view_of (sym q))) ∙ e))
 
-  pub walk-promise : (w : Tally) → w ≡ found_of p (length file) → WalkPromise file d o.concentrations o.flows w
-  unfolding first
-  walk-promise w e = rw e (ends_by (eqb p.fault.number 0) (p.view.inside || p.view.water) refl refl)
+  pub end_closed : (v.inside || v.water) ≡ false → (w : Walked) → w.account.lines ≡ v.lines → w.account.totals ≡ d.totals → w.rows ≡ d.rows → Ended file o.concentrations o.flows w
+  end_closed = closed_by g.stand refl

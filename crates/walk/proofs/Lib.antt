@@ -1,4 +1,5 @@
 -- How the books go on from record to record, and what the promise of `walk_file` asks at each way out.
+pub mod Asked
 pub mod Hours
 pub mod Masks
 pub mod Products

@@ -32,10 +32,13 @@ use Rattle.line.specs.Line.{row_in}
 use Rattle.line.specs.Put.{standing, nothing, survey_c, survey_l, PutAt}
 use Rattle.line.specs.Days.{lacks_on, first_lacking, DayPut}
 use Rattle.walk.specs.declared.books.Sums.{Sums}
-use Rattle.walk.specs.declared.take.Taken.{Taken}
-use Rattle.walk.specs.Views.{after_head, after_water_day, after_enforcement, after_plant, after_end, with_survey}
-use Rattle.walk.specs.Books.{flag_at, Open, in_open, Done, Long, WaterBooks, Kept}
-use Rattle.walk.specs.Taking.{beats, pair_c, pair_l, HeadTaken, WaterDayTaken, DayEnforcementTaken, DayPlantTaken, WaterEndTaken}
+use Rattle.walk.specs.declared.books.Taken.{Taken}
+use Rattle.walk.specs.declared.books.Marks.{Marks}
+use Rattle.walk.specs.declared.books.Done.{Done}
+use Rattle.walk.specs.declared.books.By.TheVariants.{Enforcement, Plant}
+use Rattle.walk.specs.Views.{after_head, after_water_day, after_enforcement, after_plant, beats, after_end, with_survey}
+use Rattle.walk.specs.Books.{flag_at, Open, in_open, open_in, marks_of, Long, WaterBooks, Kept}
+use Rattle.walk.specs.Taking.{pair_c, pair_l, HeadTaken, WaterDayTaken, DaySurveyTaken, WaterEndTaken}
 use Rattle.walk.proofs.Cleared.{cells-past}
 use Rattle.walk.proofs.Views.{survey-count}
 use Rattle.walk.proofs.Steps.{besides-most}
@@ -87,11 +90,11 @@ kept-water : (x y : OutfallLine) (done : List Line) {v v' : View} {s s' : Sums} 
 kept-water x y done k w l b = record { view = w; lines = k.lines; done = k.done; long = l; books = b }
 
 -- ---- a day
-pub kept-water_day : (x : OutfallLine) (done : List Line) (v : View) (s : Sums) (t : WaterDay) (o : Open) (d : Done) (runs' states' conc' flow' : List ℕ) (r : Taken)
+pub kept-water_day : (x : OutfallLine) (done : List Line) (v : View) (s : Sums) (t : WaterDay) (o : Open) (d : Done) (k' : Marks) (conc' flow' : List ℕ) (r : Taken)
     → Kept (InWater x done) v s o d → length x.days < x.head.days → t.day ≡ length x.days → first_wrong (water_day_fields t) ≡ fine
-    → WaterDayTaken v s t o.runs o.states o.concentrations o.flows runs' states' conc' flow' r
-    → Kept (InWater (with_water_day x t) done) r.view r.sums (in_open runs' o.measured states' o.flags conc' flow') d
-kept-water_day x done v s t o d runs' states' conc' flow' r k more turn ok e =
+    → WaterDayTaken v s t (marks_of o) o.concentrations o.flows k' conc' flow' r
+    → Kept (InWater (with_water_day x t) done) r.view r.sums (open_in k' conc' flow') d
+kept-water_day x done v s t o d k' conc' flow' r k more turn ok e =
     let n = length x.days in
     let er = e.runs_now ∙ ap (λ (i : ℕ). set o.runs i t.state) turn in
     let es = e.states_now ∙ ap (λ (i : ℕ). set o.states i t.state) turn in
@@ -99,8 +102,9 @@ kept-water_day x done v s t o d runs' states' conc' flow' r k more turn ok e =
     let el = e.flow_now ∙ ap (λ (i : ℕ). set o.flows i (pair_l t.pair)) turn in
     kept-water x (with_water_day x t) done k
     (e.view ∙ ap (λ (w : View). after_water_day w t.state) k.view ∙ view_water_day x done t (water_day-accepted t ok).state (k.books.early more).0 (k.books.early more).1)
-    (long_as _ _ _ _ _ _ k.long (ap length er ∙ length-set o.runs n _) refl (ap length es ∙ length-set o.states n _) refl (ap length ec ∙ length-set o.concentrations n _) (ap length el ∙ length-set o.flows n _))
-    (books_as (with_water_day x t) (water_day-books x t k.books k.long more ok) e.sums (open_is _ _ _ _ _ _ _ _ _ _ _ _ er refl es refl ec el))
+    (long_as _ _ _ _ _ _ k.long (ap length er ∙ length-set o.runs n _) (ap length e.measured_stay) (ap length es ∙ length-set o.states n _) (ap length e.flags_stay)
+    (ap length ec ∙ length-set o.concentrations n _) (ap length el ∙ length-set o.flows n _))
+    (books_as (with_water_day x t) (water_day-books x t k.books k.long more ok) e.sums (open_is _ _ _ _ _ _ _ _ _ _ _ _ er e.measured_stay es e.flags_stay ec el))
 
 -- ---- surveys
 module _ (x : OutfallLine) (done : List Line) (v : View) (s : Sums) (t : Survey) (o : Open) (d : Done) (k : Kept (InWater x done) v s o d)
@@ -143,12 +147,19 @@ module _ (x : OutfallLine) (done : List Line) (v : View) (s : Sums) (t : Survey)
         (long_as _ _ _ _ _ _ k.long refl refl (ap length p.states_now ∙ length-set o.states t.hour 2) f (ap length ec ∙ length-set o.concentrations t.hour c) (ap length el ∙ length-set o.flows t.hour l))
         (books_as y books (es ∙ ap (with_survey s) ew) (open_is _ _ _ _ _ _ _ _ _ _ _ _ refl refl p.states_now refl ec el))
 
-    pub kept-day_enforcement : (states' flags' conc' flow' : List ℕ) (r : Taken) → x.plant ≡ []
-        → DayEnforcementTaken v s t o.states o.flags o.concentrations o.flows states' flags' conc' flow' r
-        → Kept (InWater (with_day_enforcement x t) done) r.view r.sums (in_open o.runs o.measured states' flags' conc' flow') d
-    kept-day_enforcement states' flags' conc' flow' r none e =
-        subst (λ (fs : List ℕ). Kept (InWater (with_day_enforcement x t) done) r.view r.sums (in_open o.runs o.measured states' fs conc' flow') d) (sym e.flags_now)
-        (stands (with_day_enforcement x t) (set o.flags t.hour 1) states' conc' flow' e.weighed r (put_in false _ _ _ _ refl e.put) e.sums (length-set o.flags t.hour 1)
+    -- masks and flags under the code's names
+    named : (y : OutfallLine) (k' : Marks) (flags' conc' flow' : List ℕ) (r : Taken) → k'.runs ≡ o.runs → k'.measured ≡ o.measured → k'.flags ≡ flags'
+        → Kept (InWater y done) r.view r.sums (in_open o.runs o.measured k'.states flags' conc' flow') d → Kept (InWater y done) r.view r.sums (open_in k' conc' flow') d
+    named y k' flags' conc' flow' r p m q w =
+        subst (λ (ms : List ℕ). Kept (InWater y done) r.view r.sums (in_open k'.runs ms k'.states k'.flags conc' flow') d) (sym m)
+        (subst₂ (λ (rs fs : List ℕ). Kept (InWater y done) r.view r.sums (in_open rs o.measured k'.states fs conc' flow') d) (sym p) (sym q) w)
+
+    pub kept-day_enforcement : (k' : Marks) (conc' flow' : List ℕ) (r : Taken) → x.plant ≡ []
+        → DaySurveyTaken Enforcement v s t (marks_of o) o.concentrations o.flows k' conc' flow' r
+        → Kept (InWater (with_day_enforcement x t) done) r.view r.sums (open_in k' conc' flow') d
+    kept-day_enforcement k' conc' flow' r none e =
+        named (with_day_enforcement x t) k' (set o.flags t.hour 1) conc' flow' r e.runs_stay e.measured_stay e.flags_now
+        (stands (with_day_enforcement x t) (set o.flags t.hour 1) k'.states conc' flow' e.weighed r (put_in false _ _ _ _ refl e.put) e.sums (length-set o.flags t.hour 1)
         (λ q.
         e.view ∙ ap₂ (λ (w : View) (n : ℕ). after_enforcement w t.hour n) k.view q
         ∙ view_day_enforcement x done t found (day_enforcement_missing x t k.books k.long all_days day none))
@@ -157,7 +168,10 @@ module _ (x : OutfallLine) (done : List Line) (v : View) (s : Sums) (t : Survey)
     flag_is : get_or o.flags t.hour 0 ≡ flag_at x.enforcement t.hour
     flag_is = ap (λ (fs : List ℕ). get_or fs t.hour 0) k.books.surveys.flagged ∙ table_at (flag_at x.enforcement) most_hours t.hour 0 (omega (arith, k.books.period))
 
-    module _ (states' conc' flow' : List ℕ) (r : Taken) (e : DayPlantTaken v s t o.states o.flags o.concentrations o.flows states' conc' flow' r) where
+    module _ (k' : Marks) (conc' flow' : List ℕ) (r : Taken) (e : DaySurveyTaken Plant v s t (marks_of o) o.concentrations o.flows k' conc' flow' r) where
+      abbrev states' : List ℕ
+      states' = k'.states
+
       plant_by : (b : Bool) → has_survey t.hour x.enforcement ≡ b → beats o.flags t.hour ≡ b
           → Kept (InWater (with_day_plant x t) done) r.view r.sums (in_open o.runs o.measured states' o.flags conc' flow') d
       plant_by true h q =
@@ -176,11 +190,11 @@ module _ (x : OutfallLine) (done : List Line) (v : View) (s : Sums) (t : Survey)
           (λ z. e.view ∙ ap₂ (λ (w : View) (n : ℕ). after_plant w t.hour n) k.view z ∙ view_day_plant x done t found (day_plant_missing x t k.books k.long all_days day h))
           (day_plant_books x t k.books k.long all_days day room ok h)
 
-      pub kept-day_plant : Kept (InWater (with_day_plant x t) done) r.view r.sums (in_open o.runs o.measured states' o.flags conc' flow') d
+      pub kept-day_plant : Kept (InWater (with_day_plant x t) done) r.view r.sums (open_in k' conc' flow') d
       unfolding flag_at
       kept-day_plant =
-          plant_by (has_survey t.hour x.enforcement) refl
-          (ap (λ (n : ℕ). eqb n 1) flag_is ∙ flag_bit (has_survey t.hour x.enforcement))
+          named (with_day_plant x t) k' o.flags conc' flow' r e.runs_stay e.measured_stay e.flags_now
+          (plant_by (has_survey t.hour x.enforcement) refl (ap (λ (n : ℕ). eqb n 1) flag_is ∙ flag_bit (has_survey t.hour x.enforcement)))
 
 -- ---- an end
 module _ (x : OutfallLine) (done : List Line) (v : View) (s : Sums) (o : Open) (d : Done) (k : Kept (InWater x done) v s o d) (all_days : length x.days ≡ x.head.days)

@@ -30,11 +30,14 @@ use Rattle.rules.specs.Walk.{Between, Inside, view_of, begun, with_day, with_enf
 use Rattle.day.specs.Day.{concentration_at, flow_at, hour_state}
 use Rattle.day.proofs.Laws.{PairAccepted, day_accepted, concentration-blank, flow-blank, concentration-most, flow-most}
 use Rattle.walk.specs.declared.books.Sums.{Sums}
-use Rattle.walk.specs.declared.take.Taken.{Taken}
-use Rattle.walk.specs.Views.{after_head, after_day, after_enforcement, after_plant, after_batch, with_survey}
-use Rattle.walk.specs.Books.{put_from, in_cell, flag_at, Open, in_open, Done, Long, LineBooks, Kept}
+use Rattle.walk.specs.declared.books.Taken.{Taken}
+use Rattle.walk.specs.declared.books.Marks.{Marks}
+use Rattle.walk.specs.declared.books.Done.{Done}
+use Rattle.walk.specs.declared.books.By.TheVariants.{Enforcement, Plant}
+use Rattle.walk.specs.Views.{after_head, after_day, after_enforcement, after_plant, beats, after_batch, with_survey}
+use Rattle.walk.specs.Books.{put_from, in_cell, flag_at, Open, in_open, open_in, marks_of, Long, LineBooks, Kept}
 use Rattle.walk.proofs.Cleared.{cleared_all}
-use Rattle.walk.specs.Taking.{HeadTaken, DayTaken, EnforcementTaken, PlantTaken, BatchTaken, beats}
+use Rattle.walk.specs.Taking.{HeadTaken, DayTaken, SurveyTaken, BatchTaken}
 use Rattle.line.specs.declared.surveyed.Weighed.{Weighed}
 use Rattle.line.specs.Put.{Tables, in_tables, survey_c, survey_l, standing, nothing, measured_at}
 use Rattle.walk.proofs.Views.{view_head, view_day, view_enforcement, view_plant, view_batch}
@@ -125,23 +128,23 @@ module _ (d : Day) (fine-hours : judge_hours d ≡ fine) (k : ℕ) (l : k < 24) 
 
 pub kept-day : (x : StackLine) (done : List Line) (bytes : List ℕ) (v : View) (s : Sums) (o : Open) (e : Done) (runs' measured' states' conc' flow' : List ℕ) (r : Taken)
     → Kept (Inside x done) v s o e → length x.days < x.head.days → (masks_of bytes).day ≡ length x.days
-    → DayTaken bytes v s (masks_of bytes) o.runs o.measured o.states o.concentrations o.flows runs' measured' states' conc' flow' r → r.fault.number ≡ 0 → judge_hours (day_of bytes) ≡ fine
+    → DayTaken bytes v s (masks_of bytes) o.runs o.measured o.states o.concentrations o.flows runs' measured' states' conc' flow' r → judge_hours (day_of bytes) ≡ fine
     → Kept (Inside (with_day x (day_of bytes)) done) r.view r.sums (in_open runs' measured' states' o.flags conc' flow') e
 unfolding day_of
-kept-day x done bytes v s o e runs' measured' states' conc' flow' r k more turn t ok f =
+kept-day x done bytes v s o e runs' measured' states' conc' flow' r k more turn t f =
     let d = day_of bytes in
     let n = length x.days in
     let m = masks_of bytes in
     let cv = concentration_at d in
     let lv = flow_at d in
     let sv = hour_state d in
-    let er : runs' ≡ set o.runs n m.run = t.runs_now ok ∙ ap (λ (i : ℕ). set o.runs i m.run) turn in
-    let em : measured' ≡ set o.measured n m.measured = t.measured_now ok ∙ ap (λ (i : ℕ). set o.measured i m.measured) turn in
-    let es : states' ≡ put_from sv hours_of_day (hours_of_day * n) o.states = t.states_now ok ∙ ap (λ (i : ℕ). put_from sv hours_of_day (hours_of_day * i) o.states) turn in
-    let ec : conc' ≡ put_from cv hours_of_day (hours_of_day * n) o.concentrations = t.conc_now ok ∙ ap (λ (i : ℕ). put_from cv hours_of_day (hours_of_day * i) o.concentrations) turn in
-    let el : flow' ≡ put_from lv hours_of_day (hours_of_day * n) o.flows = t.flow_now ok ∙ ap (λ (i : ℕ). put_from lv hours_of_day (hours_of_day * i) o.flows) turn in
+    let er : runs' ≡ set o.runs n m.run = t.runs_now ∙ ap (λ (i : ℕ). set o.runs i m.run) turn in
+    let em : measured' ≡ set o.measured n m.measured = t.measured_now ∙ ap (λ (i : ℕ). set o.measured i m.measured) turn in
+    let es : states' ≡ put_from sv hours_of_day (hours_of_day * n) o.states = t.states_now ∙ ap (λ (i : ℕ). put_from sv hours_of_day (hours_of_day * i) o.states) turn in
+    let ec : conc' ≡ put_from cv hours_of_day (hours_of_day * n) o.concentrations = t.conc_now ∙ ap (λ (i : ℕ). put_from cv hours_of_day (hours_of_day * i) o.concentrations) turn in
+    let el : flow' ≡ put_from lv hours_of_day (hours_of_day * n) o.flows = t.flow_now ∙ ap (λ (i : ℕ). put_from lv hours_of_day (hours_of_day * i) o.flows) turn in
     let books = day_books x d k.books more cv lv (day_c d f) (day_l d f) (λ i l. concentration-most d i) (λ i l. flow-most d i) k.long in
-    kept_line x (with_day x d) done k (t.view ok ∙ ap (λ (w : View). after_day w m) k.view ∙ view_day x done d (k.books.early more).0 (k.books.early more).1)
+    kept_line x (with_day x d) done k (t.view ∙ ap (λ (w : View). after_day w m) k.view ∙ view_day x done d (k.books.early more).0 (k.books.early more).1)
     (long_as _ _ _ _ _ _ k.long (ap length er ∙ length-set o.runs n m.run) (ap length em ∙ length-set o.measured n m.measured)
     (ap length es ∙ put_length sv hours_of_day (hours_of_day * n) o.states (omega (arith, k.books.period, k.long.states))) refl
     (ap length ec ∙ put_length cv hours_of_day (hours_of_day * n) o.concentrations (omega (arith, k.books.period, k.long.concentrations)))
@@ -214,21 +217,35 @@ module _ (x : StackLine) (done : List Line) (v : View) (s : Sums) (t : Survey) (
         subst (λ (z : Tables). Kept (Inside y done) r.view r.sums (after flags' z) d) (sym e)
         (kept_line x y done k (ev (ap (λ (u : Weighed). u.found) ew)) (long_after flags' f) (books_as y books q refl))
 
-    pub kept-enforcement : (flags' : List ℕ) (o' : Tables) (r : Taken) → x.plant ≡ [] → EnforcementTaken v s t o.runs o.flags tables flags' o' r
-        → Kept (Inside (with_enforcement x t) done) r.view r.sums (after flags' o') d
-    kept-enforcement flags' o' r none e =
-        subst (λ (fs : List ℕ). Kept (Inside (with_enforcement x t) done) r.view r.sums (after fs o') d) (sym e.flags_now)
-        (stands (with_enforcement x t) (set o.flags t.hour 1) o' e.weighed r (e.put.tables ∙ sym (pick_false _ _ _ _ refl refl)) (e.put.weighs ∙ sym (pick_false _ _ _ _ refl refl)) e.sums (length-set o.flags t.hour 1)
-        (λ q.
-        e.view ∙ ap₂ (λ (w : View) (n : ℕ). after_enforcement w t.hour n) k.view q
-        ∙ view_enforcement x done t found (enforcement_lacking x t k.books k.long all_days hour room (most_c t ok) (most_l t ok) found none))
-        (enforcement_books x t k.books k.long all_days hour room (most_c t ok) (most_l t ok) found none))
+    -- the tables that a survey leaves
+    module _ (k' : Marks) (conc' flow' : List ℕ) where
+      abbrev left : Tables
+      left = in_tables k'.measured k'.states conc' flow'
+
+      -- masks and flags under the code's names
+      named : (y : StackLine) (r : Taken) (flags' : List ℕ) → k'.runs ≡ o.runs → k'.flags ≡ flags' → Kept (Inside y done) r.view r.sums (after flags' left) d
+          → Kept (Inside y done) r.view r.sums (open_in k' conc' flow') d
+      named y r flags' p q w =
+          subst₂ (λ (rs fs : List ℕ). Kept (Inside y done) r.view r.sums (in_open rs k'.measured k'.states fs conc' flow') d) (sym p) (sym q) w
+
+      pub kept-enforcement : (r : Taken) → x.plant ≡ [] → SurveyTaken Enforcement v s t (marks_of o) o.concentrations o.flows k' conc' flow' r
+          → Kept (Inside (with_enforcement x t) done) r.view r.sums (open_in k' conc' flow') d
+      kept-enforcement r none e =
+          named (with_enforcement x t) r (set o.flags t.hour 1) e.runs_stay e.flags_now
+          (stands (with_enforcement x t) (set o.flags t.hour 1) left e.weighed r (e.put.tables ∙ sym (pick_false _ _ _ _ refl refl)) (e.put.weighs ∙ sym (pick_false _ _ _ _ refl refl)) e.sums (length-set o.flags t.hour 1)
+          (λ q.
+          e.view ∙ ap₂ (λ (w : View) (n : ℕ). after_enforcement w t.hour n) k.view q
+          ∙ view_enforcement x done t found (enforcement_lacking x t k.books k.long all_days hour room (most_c t ok) (most_l t ok) found none))
+          (enforcement_books x t k.books k.long all_days hour room (most_c t ok) (most_l t ok) found none))
 
     -- a flag is 1 where an enforcement survey stands
     flag_is : get_or o.flags t.hour 0 ≡ flag_at x.enforcement t.hour
     flag_is = ap (λ (l : List ℕ). get_or l t.hour 0) k.books.surveys.flagged ∙ table_at (flag_at x.enforcement) most_hours t.hour 0 (omega (arith, k.books.period))
 
-    module _ (o' : Tables) (r : Taken) (e : PlantTaken v s t o.runs o.flags tables o' r) where
+    module _ (k' : Marks) (conc' flow' : List ℕ) (r : Taken) (e : SurveyTaken Plant v s t (marks_of o) o.concentrations o.flows k' conc' flow' r) where
+      abbrev o' : Tables
+      o' = left k' conc' flow'
+
       plant_by : (b : Bool) → has_survey t.hour x.enforcement ≡ b → beats o.flags t.hour ≡ b → Kept (Inside (with_plant x t) done) r.view r.sums (after o.flags o') d
       plant_by true h q =
           let ew : e.weighed ≡ nothing = e.put.weighs ∙ sym (pick_true _ _ _ _ q refl) in
@@ -245,11 +262,11 @@ module _ (x : StackLine) (done : List Line) (v : View) (s : Sums) (t : Survey) (
           ∙ view_plant x done t found (plant_lacking x t k.books k.long all_days hour room (most_c t ok) (most_l t ok) found h))
           (plant_books x t k.books k.long all_days hour room (most_c t ok) (most_l t ok) found h)
 
-      pub kept-plant : Kept (Inside (with_plant x t) done) r.view r.sums (after o.flags o') d
+      pub kept-plant : Kept (Inside (with_plant x t) done) r.view r.sums (open_in k' conc' flow') d
       unfolding flag_at
       kept-plant =
-          plant_by (has_survey t.hour x.enforcement) refl
-          (ap (λ (n : ℕ). eqb n 1) flag_is ∙ flag_bit (has_survey t.hour x.enforcement))
+          named k' conc' flow' (with_plant x t) r o.flags e.runs_stay e.flags_now
+          (plant_by (has_survey t.hour x.enforcement) refl (ap (λ (n : ℕ). eqb n 1) flag_is ∙ flag_bit (has_survey t.hour x.enforcement)))
 
 -- ---- a batch
 pub kept-batch : (x : StackLine) (done : List Line) (v : View) (s : Sums) (b : Batch) (o : Open) (d : Done) (r : Taken)

@@ -1,4 +1,5 @@
 -- What each kind of record asks when it is taken in, and that the books then stand for the lines. Assumes nothing.
+use Rattle.std.specs.Prelude.{Option, Some, None, Result, Ok, Err}
 use mathlib.Core.Path.{◌≡◌, refl, ◌∙◌, sym, ap, subst, subst₂}
 use mathlib.Core.Bool.{Bool, true, false, true≢false, ◌||◌}
 use mathlib.Core.List.{List, [], ◌∷◌}
@@ -16,7 +17,7 @@ use Rattle.rules.specs.declared.Outfall.{Outfall}
 use Rattle.rules.specs.declared.WaterDay.{WaterDay}
 use Rattle.rules.specs.declared.View.{View}
 use Rattle.rules.specs.declared.Coefficients.{Coefficients}
-use Rattle.rules.specs.declared.Coefficients.TheVariants.{Balance, Oxides, Dust, NoEntry}
+use Rattle.rules.specs.declared.Coefficients.TheVariants.{Balance, Oxides, Dust}
 use Rattle.rules.specs.Grams.{sulphur_of}
 use Rattle.rules.specs.Hours.{run_masks, measured_masks, first_missing, running, lacking}
 use Rattle.rules.specs.Lines.{StackLine, days_after, surveys, fuel}
@@ -28,16 +29,20 @@ use Rattle.rules.specs.Tables.{coefficients_of}
 use lib.Dec.{eqb}
 use Rattle.law.proofs.Tests.{pick_case}
 use Rattle.rules.specs.Judge.{fine, line_method, judge_record, judge_readings}
-use Rattle.rules.proofs.Faults.{Stands, stands_zero}
+use Rattle.rules.specs.declared.Refused.{Refused}
+use Rattle.rules.specs.Refusals.{Fault, told}
 use Rattle.rules.specs.Walk.{Stand, Between, Inside, InWater, view_of, runs_of, taken, taken_between, taken_inside, taken_in_water}
 use Rattle.rules.proofs.Records.{day_in}
 use Rattle.day.proofs.Laws.{PairAccepted}
 use Rattle.judge.proofs.Laws.{SurveyOk, EndOk, readings-stand, head_ok, day_ok, enforcement_ok, plant_ok, batch-ok, end_ok, bad_refused, outfall_ok, water_day-ok, day_enforcement_ok, day_plant_ok}
 use Rattle.hours.proofs.Laws.{running-period, missing_period}
 use Rattle.walk.specs.declared.books.Sums.{Sums}
-use Rattle.walk.specs.declared.take.Taken.{Taken}
-use Rattle.walk.specs.Books.{Open, in_open, Done, Kept}
-use Rattle.walk.specs.Taking.{HeadTaken, DayReady, DayTaken, SurveyReady, EnforcementTaken, PlantTaken, BatchTaken, EndReady, EndTaken, CloseReady, Closed, WaterDayReady, WaterDayTaken, DayEnforcementTaken, DayPlantTaken, WaterEndReady, WaterEndTaken}
+use Rattle.walk.specs.declared.books.Taken.{Taken}
+use Rattle.walk.specs.declared.books.Marks.{Marks}
+use Rattle.walk.specs.declared.books.Done.{Done}
+use Rattle.walk.specs.declared.books.By.TheVariants.{Enforcement, Plant}
+use Rattle.walk.specs.Books.{Open, in_open, open_in, marks_of, Kept}
+use Rattle.walk.specs.Taking.{HeadTaken, DayReady, DayTaken, DayRead, SurveyReady, SurveyTaken, BatchTaken, EndReady, EndTaken, CloseReady, Closed, WaterDayReady, WaterDayTaken, DaySurveyTaken, WaterEndReady, WaterEndTaken}
 use Rattle.walk.specs.Walking.{Ready, Took}
 use Rattle.walk.proofs.Standing.{kept-head, kept-day, kept-enforcement, kept-plant, kept-batch}
 use Rattle.walk.proofs.Ending.{method-is, cells-most, kept-end}
@@ -53,6 +58,7 @@ use Rattle.hours.specs.States.{period_states}
 use Rattle.fuel.specs.Fuel.{fuel_figure, ash_of, InRange}
 use Rattle.rules.specs.OnPaper.{OnPaper}
 use Rattle.fuel.proofs.Figures.{line_figure, line_wanting, grams-fit}
+use Rattle.walk.proofs.Asked.{ok_is}
 use Rattle.walk.proofs.Views.{survey-count}
 
 -- ---- inside a line or between two
@@ -114,14 +120,14 @@ module _ (h : Head) (batches : List Batch) (i : InRange batches) where
   abbrev figure_now : OnPaper
   figure_now = fuel_figure h (fuel batches) (sulphur_of batches) (ash_of batches)
 
-  entry_most : (coefficients_of h ≡ NoEntry → ⊥) → grams_in figure_now ≤ most_grams
+  entry_most : (coefficients_of h ≡ None → ⊥) → grams_in figure_now ≤ most_grams
   entry_most n = subst (λ (f : OnPaper). grams_in f ≤ most_grams) (sym (line_figure h batches i n)) (omega (arith, grams-fit h batches i))
 
-  fuel-by : (c : Coefficients) → coefficients_of h ≡ c → grams_in figure_now ≤ most_grams
-  fuel-by NoEntry e = subst (λ (f : OnPaper). grams_in f ≤ most_grams) (sym (line_wanting h batches i e)) (omega arith)
-  fuel-by (Balance q k) e = entry_most (λ z. let t : ◌≡◌ {A = ℕ} 0 1 = cc in omega arith)
-  fuel-by (Oxides q) e = entry_most (λ z. let t : ◌≡◌ {A = ℕ} 0 1 = cc in omega arith)
-  fuel-by (Dust q k) e = entry_most (λ z. let t : ◌≡◌ {A = ℕ} 0 1 = cc in omega arith)
+  fuel-by : (c : Option Coefficients) → coefficients_of h ≡ c → grams_in figure_now ≤ most_grams
+  fuel-by None e = subst (λ (f : OnPaper). grams_in f ≤ most_grams) (sym (line_wanting h batches i e)) (omega arith)
+  fuel-by (Some (Balance q k)) e = entry_most (λ z. let t : ◌≡◌ {A = ℕ} 0 1 = cc in omega arith)
+  fuel-by (Some (Oxides q)) e = entry_most (λ z. let t : ◌≡◌ {A = ℕ} 0 1 = cc in omega arith)
+  fuel-by (Some (Dust q k)) e = entry_most (λ z. let t : ◌≡◌ {A = ℕ} 0 1 = cc in omega arith)
 
   fuel-most : grams_in figure_now ≤ most_grams
   fuel-most = fuel-by (coefficients_of h) refl
@@ -140,8 +146,9 @@ module _ (bytes : List ℕ) (v : View) (s : Sums) (o : Open) (d : Done) where
   judged stand r q e k = ap (judge_record v (runs_of stand)) (sym e) ∙ k.passed
 
   -- a record without readings to judge is taken in
-  took_other : (stand : Stand) (r q : Record) (t : Taken) (o' : Open) (d' : Done) → r ≡ q → t.fault ≡ fine → judge_readings bytes q ≡ fine → Kept (taken stand bytes q) t.view t.sums o' d' → Took stand bytes r t o' d'
-  took_other stand r q t o' d' e f j k = rw e (record { faults = f ∙ sym j; stays = λ _. k })
+  took_other : (stand : Stand) (r q : Record) (t : Taken) (o' : Open) (d' : Done) → r ≡ q → judge_readings bytes q ≡ fine → Kept (taken stand bytes q) t.view t.sums o' d' → Took stand bytes r (Ok t) o' d'
+  unfolding told fine
+  took_other stand r q t o' d' e j k = rw e (record { faults = sym j; stays = λ u w. subst (λ (z : Taken). Kept (taken stand bytes q) z.view z.sums o' d') (ok_is t u w) k })
 
   -- ---- a head
   pub ready_head : (stand : Stand) (r : Record) (h : Head) → r ≡ OfHead h → Ready stand bytes r v s o d → (s.used ≤ most_hours) × (length o.concentrations ≡ most_hours) × (length o.flows ≡ most_hours)
@@ -151,11 +158,11 @@ module _ (bytes : List ℕ) (v : View) (s : Sums) (o : Open) (d : Done) where
       (λ done y. (y.books.used_most, y.long.concentrations, y.long.flows)) k.kept
 
   pub took_head : (stand : Stand) (r : Record) (h : Head) (flags' conc' flow' : List ℕ) (t : Taken) → r ≡ OfHead h → Ready stand bytes r v s o d
-      → HeadTaken v s h false o.flags o.concentrations o.flows flags' conc' flow' t → Took stand bytes r t (in_open o.runs o.measured o.states flags' conc' flow') d
+      → HeadTaken v s h false o.flags o.concentrations o.flows flags' conc' flow' t → Took stand bytes r (Ok t) (in_open o.runs o.measured o.states flags' conc' flow') d
   unfolding taken taken_between judge_readings
   took_head stand r h flags' conc' flow' t q k e =
       let ok = head_ok v (runs_of stand) h (judged stand r (OfHead h) q k) in
-      took_other stand r (OfHead h) t _ d q e.faults refl
+      took_other stand r (OfHead h) t _ d q refl
       (between-lines stand v k.kept.view ok.outside (λ a. Kept a v s o d → Kept (taken a bytes (OfHead h)) t.view t.sums (in_open o.runs o.measured o.states flags' conc' flow') d)
       (λ done y. kept-head done v s h o d flags' conc' flow' t y ok.days_most (ok.pollutant_least, omega (arith, ok.pollutant_most)) (lines_left done v y.view ok.room) e) k.kept)
 
@@ -165,21 +172,22 @@ module _ (bytes : List ℕ) (v : View) (s : Sums) (o : Open) (d : Done) where
   unfolding view_of
   day_facts x done m e l n = (omega (arith, ap (λ (w : View). w.days) e, ap (λ (w : View). w.head.days) e), n ∙ ap (λ (w : View). w.days) e)
 
-  pub took_day : (stand : Stand) (r : Record) (m : Masks) (runs' measured' states' conc' flow' : List ℕ) (t : Taken) → r ≡ OfDay m → Ready stand bytes r v s o d
-      → DayTaken bytes v s m o.runs o.measured o.states o.concentrations o.flows runs' measured' states' conc' flow' t → Took stand bytes r t (in_open runs' measured' states' o.flags conc' flow') d
-  unfolding taken taken_inside judge_readings
-  took_day stand r m runs' measured' states' conc' flow' t q k e =
+  pub took_day : (stand : Stand) (r : Record) (m : Masks) (k' : Marks) (conc' flow' : List ℕ) (t : Result Taken Refused) → r ≡ OfDay m → Ready stand bytes r v s o d
+      → DayRead bytes v s m (marks_of o) o.concentrations o.flows k' conc' flow' t → Took stand bytes r t (open_in k' conc' flow') d
+  unfolding taken taken_inside judge_readings told fine
+  took_day stand r m k' conc' flow' t q k e =
       let ok = day_ok v (runs_of stand) m (judged stand r (OfDay m) q k) in
       let n = (day_in bytes m (sym k.read ∙ q)).1 in
       rw q (record {
         faults = e.faults;
-        stays = λ z.
-            in_line stand v k.kept.view ok.inside (λ a. Kept a v s o d → Kept (taken a bytes (OfDay m)) t.view t.sums (in_open runs' measured' states' o.flags conc' flow') d)
+        stays = λ u w.
+            subst (λ (fs : List ℕ). Kept (taken stand bytes (OfDay m)) u.view u.sums (in_open k'.runs k'.measured k'.states fs conc' flow') d) (sym e.flags_stay)
+            (in_line stand v k.kept.view ok.inside (λ a. Kept a v s o d → Kept (taken a bytes (OfDay m)) u.view u.sums (in_open k'.runs k'.measured k'.states o.flags conc' flow') d)
             (λ x done y.
             let f = day_facts x done m y.view ok.room ok.turn in
-            kept-day x done bytes v s o d runs' measured' states' conc' flow' t y f.0 (sym (ap (λ (w : Masks). w.day) n) ∙ f.1)
-            (subst (λ (w : Masks). DayTaken bytes v s w o.runs o.measured o.states o.concentrations o.flows runs' measured' states' conc' flow' t) n e) z
-            (sym e.faults ∙ stands_zero t.fault (subst Stands (sym e.faults) (readings-stand bytes (OfDay m))) z)) k.kept;
+            kept-day x done bytes v s o d k'.runs k'.measured k'.states conc' flow' u y f.0 (sym (ap (λ (w : Masks). w.day) n) ∙ f.1)
+            (subst (λ (w : Masks). DayTaken bytes v s w o.runs o.measured o.states o.concentrations o.flows k'.runs k'.measured k'.states conc' flow' u) n (e.takes u w))
+            (sym e.faults ∙ ap told w)) k.kept);
       })
 
   -- ---- surveys
@@ -203,41 +211,39 @@ module _ (bytes : List ℕ) (v : View) (s : Sums) (o : Open) (d : Done) where
   unfolding view_of
   no_plant x done e z = empty_of x.plant (sym (survey-count x.plant) ∙ sym (ap (λ (w : View). w.plant.count) e) ∙ z)
 
-  pub took_enforcement : (stand : Stand) (r : Record) (t : Survey) (flags' : List ℕ) (o' : Tables) (u : Taken) → r ≡ OfEnforcement t → Ready stand bytes r v s o d
-      → EnforcementTaken v s t o.runs o.flags (tables_in o) flags' o' u → Took stand bytes r u (in_open o.runs o'.measured o'.states flags' o'.concentrations o'.flows) d
+  pub took_enforcement : (stand : Stand) (r : Record) (t : Survey) (k' : Marks) (conc' flow' : List ℕ) (u : Taken) → r ≡ OfEnforcement t → Ready stand bytes r v s o d
+      → SurveyTaken Enforcement v s t (marks_of o) o.concentrations o.flows k' conc' flow' u → Took stand bytes r (Ok u) (open_in k' conc' flow') d
   unfolding taken taken_inside judge_readings
-  took_enforcement stand r t flags' o' u q k e =
+  took_enforcement stand r t k' conc' flow' u q k e =
       let ok = enforcement_ok v (runs_of stand) t (judged stand r (OfEnforcement t) q k) in
-      took_other stand r (OfEnforcement t) u _ d q e.faults refl
-      (in_line stand v k.kept.view ok.1.inside
-      (λ a. Kept a v s o d → Kept (taken a bytes (OfEnforcement t)) u.view u.sums (in_open o.runs o'.measured o'.states flags' o'.concentrations o'.flows) d)
+      took_other stand r (OfEnforcement t) u _ d q refl
+      (in_line stand v k.kept.view ok.1.inside (λ a. Kept a v s o d → Kept (taken a bytes (OfEnforcement t)) u.view u.sums (open_in k' conc' flow') d)
       (λ x done y.
       let f = survey-facts x done t y.view ok.1 in
-      kept-enforcement x done v s t o d y f.hour f.all_days f.room f.pair flags' o' u (no_plant x done y.view ok.0) e) k.kept)
+      kept-enforcement x done v s t o d y f.hour f.all_days f.room f.pair k' conc' flow' u (no_plant x done y.view ok.0) e) k.kept)
 
-  pub took_plant : (stand : Stand) (r : Record) (t : Survey) (o' : Tables) (u : Taken) → r ≡ OfPlant t → Ready stand bytes r v s o d
-      → PlantTaken v s t o.runs o.flags (tables_in o) o' u → Took stand bytes r u (in_open o.runs o'.measured o'.states o.flags o'.concentrations o'.flows) d
+  pub took_plant : (stand : Stand) (r : Record) (t : Survey) (k' : Marks) (conc' flow' : List ℕ) (u : Taken) → r ≡ OfPlant t → Ready stand bytes r v s o d
+      → SurveyTaken Plant v s t (marks_of o) o.concentrations o.flows k' conc' flow' u → Took stand bytes r (Ok u) (open_in k' conc' flow') d
   unfolding taken taken_inside judge_readings
-  took_plant stand r t o' u q k e =
+  took_plant stand r t k' conc' flow' u q k e =
       let ok = plant_ok v (runs_of stand) t (judged stand r (OfPlant t) q k) in
-      took_other stand r (OfPlant t) u _ d q e.faults refl
-      (in_line stand v k.kept.view ok.inside
-      (λ a. Kept a v s o d → Kept (taken a bytes (OfPlant t)) u.view u.sums (in_open o.runs o'.measured o'.states o.flags o'.concentrations o'.flows) d)
+      took_other stand r (OfPlant t) u _ d q refl
+      (in_line stand v k.kept.view ok.inside (λ a. Kept a v s o d → Kept (taken a bytes (OfPlant t)) u.view u.sums (open_in k' conc' flow') d)
       (λ x done y.
       let f = survey-facts x done t y.view ok in
-      kept-plant x done v s t o d y f.hour f.all_days f.room f.pair o' u e) k.kept)
+      kept-plant x done v s t o d y f.hour f.all_days f.room f.pair k' conc' flow' u e) k.kept)
 
   -- ---- a batch
-  pub took_batch : (stand : Stand) (r : Record) (b : Batch) (u : Taken) → r ≡ OfBatch b → Ready stand bytes r v s o d → BatchTaken v s b u → Took stand bytes r u o d
+  pub took_batch : (stand : Stand) (r : Record) (b : Batch) (u : Taken) → r ≡ OfBatch b → Ready stand bytes r v s o d → BatchTaken v s b u → Took stand bytes r (Ok u) o d
   unfolding taken taken_inside judge_readings view_of
   took_batch stand r b u q k e =
       let ok = batch-ok v (runs_of stand) b (judged stand r (OfBatch b) q k) in
-      took_other stand r (OfBatch b) u o d q e.faults refl
+      took_other stand r (OfBatch b) u o d q refl
       (in_line stand v k.kept.view ok.inside (λ a. Kept a v s o d → Kept (taken a bytes (OfBatch b)) u.view u.sums o d)
       (λ x done y. kept-batch x done v s b o d u y (omega (arith, ok.fuel-most, ap (λ (w : View). w.fuel) y.view)) ok.sulphur_most ok.ash_most e) k.kept)
 
   -- ---- an end
-  no_entry : (x : StackLine) (done : List Line) → v ≡ view_of (Inside x done) → v.water ≡ false → EndOk v → (method x ≡ 1 → ⊥) → (method x ≡ 2 → ⊥) → coefficients_of x.head ≡ NoEntry → ⊥
+  no_entry : (x : StackLine) (done : List Line) → v ≡ view_of (Inside x done) → v.water ≡ false → EndOk v → (method x ≡ 1 → ⊥) → (method x ≡ 2 → ⊥) → coefficients_of x.head ≡ None → ⊥
   unfolding view_of
   no_entry x done e w ok n m q =
       (ok.by_fuel w (subst (λ (i : ℕ). 2 < i) (sym (ap line_method e ∙ method-is x done)) (above_two (method x) (method-least x) n m))).1
@@ -268,20 +274,13 @@ module _ (bytes : List ℕ) (v : View) (s : Sums) (o : Open) (d : Done) where
 
   pub took_end : (stand : Stand) (r : Record) (conc' flow' : List ℕ) (d' : Done) (u : Taken) → r ≡ OfEnd → Ready stand bytes r v s o d
       → Closed v s o.runs o.measured o.states o.concentrations o.flows d conc' flow' d' u
-      → Took stand bytes r u (in_open o.runs o.measured o.states o.flags conc' flow') d'
+      → Took stand bytes r (Ok u) (in_open o.runs o.measured o.states o.flags conc' flow') d'
   unfolding taken taken_inside taken_in_water judge_readings
   took_end stand r conc' flow' d' u q k e =
       let ok = end_ok v (runs_of stand) (judged stand r OfEnd q k) in
-      took_other stand r OfEnd u _ d' q (closed_fine ok.inside e) refl
+      took_other stand r OfEnd u _ d' q refl
       (in_either stand v k.kept.view ok.inside (λ a. Kept a v s o d → Kept (taken a bytes OfEnd) u.view u.sums (in_open o.runs o.measured o.states o.flags conc' flow') d')
       (λ x done w y. stack_end x done conc' flow' d' u y w ok (e.of_stack w)) (λ x done w y. outfall_end x done conc' flow' d' u y ok (e.of_outfall w)) k.kept)
-    where
-      closed_fine : (v.inside || v.water) ≡ true → Closed v s o.runs o.measured o.states o.concentrations o.flows d conc' flow' d' u → u.fault ≡ fine
-      closed_fine i e = by v.water refl
-        where
-          by : (b : Bool) → v.water ≡ b → u.fault ≡ fine
-          by true w = (e.of_outfall w).0.stated.faults
-          by false w = (e.of_stack w).stated.faults
 
   -- ---- what each asks before it is taken in
   pub days_lent : (stand : Stand) → Kept stand v s o d → v.days ≤ most_days
@@ -452,11 +451,11 @@ module _ (bytes : List ℕ) (v : View) (s : Sums) (o : Open) (d : Done) where
       (λ done y. (y.books.used_most, y.long.concentrations, y.long.flows)) k.kept
 
   pub took_outfall : (stand : Stand) (r : Record) (h : Outfall) (g : Head) (flags' conc' flow' : List ℕ) (u : Taken) → r ≡ OfOutfallHead h → g ≡ as_head h → Ready stand bytes r v s o d
-      → HeadTaken v s g true o.flags o.concentrations o.flows flags' conc' flow' u → Took stand bytes r u (in_open o.runs o.measured o.states flags' conc' flow') d
+      → HeadTaken v s g true o.flags o.concentrations o.flows flags' conc' flow' u → Took stand bytes r (Ok u) (in_open o.runs o.measured o.states flags' conc' flow') d
   unfolding taken taken_between judge_readings
   took_outfall stand r h g flags' conc' flow' u q p k e =
       let ok = outfall_ok v (runs_of stand) h (judged stand r (OfOutfallHead h) q k) in
-      took_other stand r (OfOutfallHead h) u _ d q e.faults refl
+      took_other stand r (OfOutfallHead h) u _ d q refl
       (between-lines stand v k.kept.view ok.outside (λ a. Kept a v s o d → Kept (taken a bytes (OfOutfallHead h)) u.view u.sums (in_open o.runs o.measured o.states flags' conc' flow') d)
       (λ done y.
       kept-outfall done v s h o d flags' conc' flow' u y ok.days_most (omega (arith, ok.pollutant_least), ok.pollutant_most) (lines_left done v y.view ok.room)
@@ -481,15 +480,15 @@ module _ (bytes : List ℕ) (v : View) (s : Sums) (o : Open) (d : Done) where
         missing = omega (arith, ap (λ (w : View). w.missing) e, missing_most x, b.days, b.period);
       }) k.kept
 
-  pub took_water_day : (stand : Stand) (r : Record) (t : WaterDay) (runs' states' conc' flow' : List ℕ) (u : Taken) → r ≡ OfOutfallDay t → Ready stand bytes r v s o d
-      → WaterDayTaken v s t o.runs o.states o.concentrations o.flows runs' states' conc' flow' u → Took stand bytes r u (in_open runs' o.measured states' o.flags conc' flow') d
+  pub took_water_day : (stand : Stand) (r : Record) (t : WaterDay) (k' : Marks) (conc' flow' : List ℕ) (u : Taken) → r ≡ OfOutfallDay t → Ready stand bytes r v s o d
+      → WaterDayTaken v s t (marks_of o) o.concentrations o.flows k' conc' flow' u → Took stand bytes r (Ok u) (open_in k' conc' flow') d
   unfolding taken taken_in_water judge_readings view_of as_head
-  took_water_day stand r t runs' states' conc' flow' u q k e =
+  took_water_day stand r t k' conc' flow' u q k e =
       let ok = water_day-ok v (runs_of stand) t (judged stand r (OfOutfallDay t) q k) in
-      took_other stand r (OfOutfallDay t) u _ d q e.faults refl
-      (in_water_lem stand v k.kept.view ok.inside (λ a. Kept a v s o d → Kept (taken a bytes (OfOutfallDay t)) u.view u.sums (in_open runs' o.measured states' o.flags conc' flow') d)
+      took_other stand r (OfOutfallDay t) u _ d q refl
+      (in_water_lem stand v k.kept.view ok.inside (λ a. Kept a v s o d → Kept (taken a bytes (OfOutfallDay t)) u.view u.sums (open_in k' conc' flow') d)
       (λ x done y.
-      kept-water_day x done v s t o d runs' states' conc' flow' u y (omega (arith, ok.room, ap (λ (w : View). w.days) y.view, ap (λ (w : View). w.head.days) y.view))
+      kept-water_day x done v s t o d k' conc' flow' u y (omega (arith, ok.room, ap (λ (w : View). w.days) y.view, ap (λ (w : View). w.head.days) y.view))
       (ok.turn ∙ ap (λ (w : View). w.days) y.view) ok.fields e) k.kept)
 
   -- ---- surveys of an outfall
@@ -497,31 +496,31 @@ module _ (bytes : List ℕ) (v : View) (s : Sums) (o : Open) (d : Done) where
   ready_day_enforcement stand r t q k =
       ready_day_survey stand t v.enforcement.count (omega arith) (day_enforcement_ok v (runs_of stand) t (judged stand r (OfOutfallEnforcement t) q k)).1 k.kept
 
-  pub took_day_enforcement : (stand : Stand) (r : Record) (t : Survey) (states' flags' conc' flow' : List ℕ) (u : Taken) → r ≡ OfOutfallEnforcement t → Ready stand bytes r v s o d
-      → DayEnforcementTaken v s t o.states o.flags o.concentrations o.flows states' flags' conc' flow' u → Took stand bytes r u (in_open o.runs o.measured states' flags' conc' flow') d
+  pub took_day_enforcement : (stand : Stand) (r : Record) (t : Survey) (k' : Marks) (conc' flow' : List ℕ) (u : Taken) → r ≡ OfOutfallEnforcement t → Ready stand bytes r v s o d
+      → DaySurveyTaken Enforcement v s t (marks_of o) o.concentrations o.flows k' conc' flow' u → Took stand bytes r (Ok u) (open_in k' conc' flow') d
   unfolding taken taken_in_water judge_readings view_of
-  took_day_enforcement stand r t states' flags' conc' flow' u q k e =
+  took_day_enforcement stand r t k' conc' flow' u q k e =
       let ok = day_enforcement_ok v (runs_of stand) t (judged stand r (OfOutfallEnforcement t) q k) in
-      took_other stand r (OfOutfallEnforcement t) u _ d q e.faults refl
-      (in_water_lem stand v k.kept.view ok.1.inside (λ a. Kept a v s o d → Kept (taken a bytes (OfOutfallEnforcement t)) u.view u.sums (in_open o.runs o.measured states' flags' conc' flow') d)
+      took_other stand r (OfOutfallEnforcement t) u _ d q refl
+      (in_water_lem stand v k.kept.view ok.1.inside (λ a. Kept a v s o d → Kept (taken a bytes (OfOutfallEnforcement t)) u.view u.sums (open_in k' conc' flow') d)
       (λ x done y.
       let f = day_survey_facts x done t y.view ok.1 in
-      kept-day_enforcement x done v s t o d y f.day f.all_days f.room f.pair states' flags' conc' flow' u
+      kept-day_enforcement x done v s t o d y f.day f.all_days f.room f.pair k' conc' flow' u
       (empty_of x.plant (sym (survey-count x.plant) ∙ sym (ap (λ (w : View). w.plant.count) y.view) ∙ ok.0)) e) k.kept)
 
   pub ready_day_plant : (stand : Stand) (r : Record) (t : Survey) → r ≡ OfOutfallPlant t → Ready stand bytes r v s o d → SurveyReady t v.plant.count (lacks_on o.states t.hour) v s
   ready_day_plant stand r t q k = ready_day_survey stand t v.plant.count (omega arith) (day_plant_ok v (runs_of stand) t (judged stand r (OfOutfallPlant t) q k)) k.kept
 
-  pub took_day_plant : (stand : Stand) (r : Record) (t : Survey) (states' conc' flow' : List ℕ) (u : Taken) → r ≡ OfOutfallPlant t → Ready stand bytes r v s o d
-      → DayPlantTaken v s t o.states o.flags o.concentrations o.flows states' conc' flow' u → Took stand bytes r u (in_open o.runs o.measured states' o.flags conc' flow') d
+  pub took_day_plant : (stand : Stand) (r : Record) (t : Survey) (k' : Marks) (conc' flow' : List ℕ) (u : Taken) → r ≡ OfOutfallPlant t → Ready stand bytes r v s o d
+      → DaySurveyTaken Plant v s t (marks_of o) o.concentrations o.flows k' conc' flow' u → Took stand bytes r (Ok u) (open_in k' conc' flow') d
   unfolding taken taken_in_water judge_readings
-  took_day_plant stand r t states' conc' flow' u q k e =
+  took_day_plant stand r t k' conc' flow' u q k e =
       let ok = day_plant_ok v (runs_of stand) t (judged stand r (OfOutfallPlant t) q k) in
-      took_other stand r (OfOutfallPlant t) u _ d q e.faults refl
-      (in_water_lem stand v k.kept.view ok.inside (λ a. Kept a v s o d → Kept (taken a bytes (OfOutfallPlant t)) u.view u.sums (in_open o.runs o.measured states' o.flags conc' flow') d)
+      took_other stand r (OfOutfallPlant t) u _ d q refl
+      (in_water_lem stand v k.kept.view ok.inside (λ a. Kept a v s o d → Kept (taken a bytes (OfOutfallPlant t)) u.view u.sums (open_in k' conc' flow') d)
       (λ x done y.
       let f = day_survey_facts x done t y.view ok in
-      kept-day_plant x done v s t o d y f.day f.all_days f.room f.pair states' conc' flow' u e) k.kept)
+      kept-day_plant x done v s t o d y f.day f.all_days f.room f.pair k' conc' flow' u e) k.kept)
 
   pub took_none : (stand : Stand) (r : Record) → r ≡ Bad → Ready stand bytes r v s o d → ⊥
   took_none stand r q k = bad_refused v (runs_of stand) (judged stand r Bad q k)

@@ -17,6 +17,8 @@ use Rattle.rules.specs.Walk.{Stand, Between, Inside, InWater, view_of, states_of
 use Rattle.hours.specs.States.{period_states}
 use Rattle.fuel.specs.Fuel.{ash_of, InRange}
 use Rattle.walk.specs.declared.books.Sums.{Sums}
+use Rattle.walk.specs.declared.books.Marks.{Marks}
+use Rattle.walk.specs.declared.books.Done.{Done}
 
 -- the rows of no line, in cells for 48
 unfoldable pub no_rows : List ℕ
@@ -40,13 +42,12 @@ abbrev pub in_open : List ℕ → List ℕ → List ℕ → List ℕ → List �
 in_open runs measured states flags concentrations flows =
     record { runs = runs; measured = measured; states = states; flags = flags; concentrations = concentrations; flows = flows }
 
--- and of the lines that are done: their rows, and the totals
-pub record Done : Type 0 where
-  pub rows : List ℕ
-  pub totals : List ℕ
+-- the same from the code's own tables and the two that are lent
+abbrev pub open_in : Marks → List ℕ → List ℕ → Open
+open_in m concentrations flows = in_open m.runs m.measured m.states m.flags concentrations flows
 
-abbrev pub in_done : List ℕ → List ℕ → Done
-in_done rows totals = record { rows = rows; totals = totals }
+abbrev pub marks_of : Open → Marks
+marks_of o = record { runs = o.runs; measured = o.measured; states = o.states; flags = o.flags }
 
 -- what a cell holds of an hour that is not filled
 unfoldable pub in_cell : Slot Pair → Values

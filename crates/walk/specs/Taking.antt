@@ -1,5 +1,5 @@
 -- What the functions that take a record in promise each other.
-use Rattle.std.specs.Prelude.{ℕ, ◌+◌, ◌*◌, ◌<◌, ◌≤◌, Bool, true, false, List, ◌≡◌, length, take, get_or, set, eqb}
+use Rattle.std.specs.Prelude.{ℕ, ◌+◌, ◌*◌, ◌<◌, ◌≤◌, Bool, true, false, List, ◌≡◌, length, take, get_or, set, Result, Ok}
 use Rattle.law.specs.Numbers.{hours_of_day, most_days, most_hours, most_lines, row_cells, total_cells, most_surveys, most_amount, most_grams}
 use Rattle.law.specs.Words.{over}
 use Rattle.rules.specs.declared.Head.{Head}
@@ -7,6 +7,8 @@ use Rattle.rules.specs.declared.Masks.{Masks}
 use Rattle.rules.specs.declared.Survey.{Survey}
 use Rattle.rules.specs.declared.Batch.{Batch}
 use Rattle.rules.specs.declared.View.{View}
+use Rattle.rules.specs.declared.Refused.{Refused}
+use Rattle.rules.specs.Refusals.{told}
 use Rattle.rules.specs.declared.Pair.{Pair}
 use Rattle.rules.specs.declared.WaterDay.{WaterDay}
 use Rattle.rules.specs.Hours.{first_missing}
@@ -15,16 +17,19 @@ use Rattle.rules.specs.Records.{day_of}
 use Rattle.hours.specs.States.{period_states}
 use Rattle.line.specs.Days.{first_lacking, DayPut}
 use Rattle.line.specs.declared.surveyed.Weighed.{Weighed}
-use Rattle.line.specs.Put.{Tables, SurveyPut}
+use Rattle.line.specs.Put.{in_tables, SurveyPut}
 use Rattle.line.specs.Line.{row_in}
-use Rattle.rules.specs.Judge.{fine, judge_hours, line_method, daily_method}
+use Rattle.rules.specs.Judge.{judge_hours, line_method, daily_method}
 use Rattle.day.specs.Day.{concentration_at, flow_at, hour_state}
 use Rattle.walk.specs.declared.books.Sums.{Sums}
-use Rattle.walk.specs.declared.take.Taken.{Taken}
-use Rattle.walk.specs.Views.{after_head, after_day, after_enforcement, after_plant, after_batch, after_end, after_water_day, opened_sums, with_survey, with_fuel}
+use Rattle.walk.specs.declared.books.Taken.{Taken}
+use Rattle.walk.specs.declared.books.Marks.{Marks}
+use Rattle.walk.specs.declared.books.Done.{Done}
+use Rattle.walk.specs.declared.books.By.{By}
+use Rattle.walk.specs.Views.{after_head, after_day, after_survey, beaten_by, flags_by, after_batch, after_end, after_water_day, opened_sums, with_survey, with_fuel}
 use Rattle.walk.specs.Closing.{grams_in, daily_grams, Limits, LineGrams, with_grams}
 use Rattle.fuel.specs.Fuel.{fuel_figure}
-use Rattle.walk.specs.Books.{put_from, Done}
+use Rattle.walk.specs.Books.{put_from}
 
 -- what a day asks
 pub record DayReady (bytes : List ℕ) (v : View) (m : Masks) (states conc flow : List ℕ) : Type 0 where
@@ -47,48 +52,39 @@ pub record SurveyReady (t : Survey) (count found : ℕ) (v : View) (s : Sums) : 
 
 -- a head: cells and flags are 0
 pub record HeadTaken (v : View) (s : Sums) (h : Head) (water : Bool) (flags conc flow flags' conc' flow' : List ℕ) (r : Taken) : Type 0 where
-  pub faults : r.fault ≡ fine
   pub view : r.view ≡ after_head v h water
   pub sums : r.sums ≡ opened_sums h water
   pub flags_now : flags' ≡ over (λ k. 0) s.used flags
   pub conc_now : conc' ≡ over (λ k. 0) s.used conc
   pub flow_now : flow' ≡ over (λ k. 0) s.used flow
 
--- a day: its masks, its 24 states and its 24 values, unless a reading is refused
+-- a day: its masks, its 24 states and its 24 values
 pub record DayTaken (bytes : List ℕ) (v : View) (s : Sums) (m : Masks) (runs measured states conc flow runs' measured' states' conc' flow' : List ℕ) (r : Taken) : Type 0 where
-  pub faults : r.fault ≡ judge_hours (day_of bytes)
-  pub view : r.fault.number ≡ 0 → r.view ≡ after_day v m
+  pub view : r.view ≡ after_day v m
   pub sums : r.sums ≡ s
-  pub runs_now : r.fault.number ≡ 0 → runs' ≡ set runs m.day m.run
-  pub measured_now : r.fault.number ≡ 0 → measured' ≡ set measured m.day m.measured
-  pub states_now : r.fault.number ≡ 0 → states' ≡ put_from (hour_state (day_of bytes)) hours_of_day (hours_of_day * m.day) states
-  pub conc_now : r.fault.number ≡ 0 → conc' ≡ put_from (concentration_at (day_of bytes)) hours_of_day (hours_of_day * m.day) conc
-  pub flow_now : r.fault.number ≡ 0 → flow' ≡ put_from (flow_at (day_of bytes)) hours_of_day (hours_of_day * m.day) flow
+  pub runs_now : runs' ≡ set runs m.day m.run
+  pub measured_now : measured' ≡ set measured m.day m.measured
+  pub states_now : states' ≡ put_from (hour_state (day_of bytes)) hours_of_day (hours_of_day * m.day) states
+  pub conc_now : conc' ≡ put_from (concentration_at (day_of bytes)) hours_of_day (hours_of_day * m.day) conc
+  pub flow_now : flow' ≡ put_from (flow_at (day_of bytes)) hours_of_day (hours_of_day * m.day) flow
 
--- an enforcement survey
-pub record EnforcementTaken (v : View) (s : Sums) (t : Survey) (runs flags : List ℕ) (o : Tables) (flags' : List ℕ) (o' : Tables) (r : Taken) : Type 0 where
+-- a day is taken in, unless a reading is refused; no flag moves
+pub record DayRead (bytes : List ℕ) (v : View) (s : Sums) (m : Masks) (k : Marks) (conc flow : List ℕ) (k' : Marks) (conc' flow' : List ℕ) (r : Result Taken Refused) : Type 0 where
+  pub faults : told r ≡ judge_hours (day_of bytes)
+  pub takes : (t : Taken) → r ≡ Ok t → DayTaken bytes v s m k.runs k.measured k.states conc flow k'.runs k'.measured k'.states conc' flow' t
+  pub flags_stay : k'.flags ≡ k.flags
+
+-- a survey of an hour: a plant survey is beaten where an enforcement survey stands
+pub record SurveyTaken (by : By) (v : View) (s : Sums) (t : Survey) (k : Marks) (conc flow : List ℕ) (k' : Marks) (conc' flow' : List ℕ) (r : Taken) : Type 0 where
   pub weighed : Weighed
-  pub put : SurveyPut t false runs o o' weighed
-  pub faults : r.fault ≡ fine
-  pub view : r.view ≡ after_enforcement v t.hour weighed.found
+  pub put : SurveyPut t (beaten_by by k.flags t.hour) k.runs (in_tables k.measured k.states conc flow) (in_tables k'.measured k'.states conc' flow') weighed
+  pub view : r.view ≡ after_survey by v t.hour weighed.found
   pub sums : r.sums ≡ with_survey s weighed
-  pub flags_now : flags' ≡ set flags t.hour 1
-
--- whether an hour has an enforcement survey, by the flags of a quarter's hours
-abbrev pub beats : List ℕ → ℕ → Bool
-beats flags h = eqb (get_or flags h 0) 1
-
--- a plant survey, where an enforcement survey stands and where none does
-pub record PlantTaken (v : View) (s : Sums) (t : Survey) (runs flags : List ℕ) (o o' : Tables) (r : Taken) : Type 0 where
-  pub weighed : Weighed
-  pub put : SurveyPut t (beats flags t.hour) runs o o' weighed
-  pub faults : r.fault ≡ fine
-  pub view : r.view ≡ after_plant v t.hour weighed.found
-  pub sums : r.sums ≡ with_survey s weighed
+  pub flags_now : k'.flags ≡ flags_by by k.flags t.hour
+  pub runs_stay : k'.runs ≡ k.runs
 
 -- a batch
 pub record BatchTaken (v : View) (s : Sums) (b : Batch) (r : Taken) : Type 0 where
-  pub faults : r.fault ≡ fine
   pub view : r.view ≡ after_batch v b.kg
   pub sums : r.sums ≡ with_fuel s b
 
@@ -101,7 +97,6 @@ pub record StateReady (v : View) (grams : ℕ) (so_far : List ℕ) : Type 0 wher
 
 -- a line stated: its row, and its grams in the total of its pollutant
 pub record LineStated (v : View) (s : Sums) (method grams first : ℕ) (d d' : Done) (r : Taken) : Type 0 where
-  pub faults : r.fault ≡ fine
   pub view : r.view ≡ after_end v
   pub sums : r.sums ≡ s
   pub rows_now : d'.rows ≡ put_from (λ k. get_or (row_in v method grams first) k 0) row_cells (row_cells * v.lines) d.rows
@@ -149,31 +144,25 @@ abbrev pub pair_l : Pair → ℕ
 pair_l p = (flagged_of (flow_of (reading p.flow))).value
 
 -- a day: its state and its values
-pub record WaterDayTaken (v : View) (s : Sums) (d : WaterDay) (runs states conc flow runs' states' conc' flow' : List ℕ) (r : Taken) : Type 0 where
-  pub faults : r.fault ≡ fine
+pub record WaterDayTaken (v : View) (s : Sums) (d : WaterDay) (k : Marks) (conc flow : List ℕ) (k' : Marks) (conc' flow' : List ℕ) (r : Taken) : Type 0 where
   pub view : r.view ≡ after_water_day v d.state
   pub sums : r.sums ≡ s
-  pub runs_now : runs' ≡ set runs d.day d.state
-  pub states_now : states' ≡ set states d.day d.state
+  pub runs_now : k'.runs ≡ set k.runs d.day d.state
+  pub states_now : k'.states ≡ set k.states d.day d.state
   pub conc_now : conc' ≡ set conc d.day (pair_c d.pair)
   pub flow_now : flow' ≡ set flow d.day (pair_l d.pair)
+  pub measured_stay : k'.measured ≡ k.measured
+  pub flags_stay : k'.flags ≡ k.flags
 
--- an enforcement survey of a day
-pub record DayEnforcementTaken (v : View) (s : Sums) (t : Survey) (states flags conc flow states' flags' conc' flow' : List ℕ) (r : Taken) : Type 0 where
+-- a survey of a day
+pub record DaySurveyTaken (by : By) (v : View) (s : Sums) (t : Survey) (k : Marks) (conc flow : List ℕ) (k' : Marks) (conc' flow' : List ℕ) (r : Taken) : Type 0 where
   pub weighed : Weighed
-  pub put : DayPut t false states conc flow states' conc' flow' weighed
-  pub faults : r.fault ≡ fine
-  pub view : r.view ≡ after_enforcement v t.hour weighed.found
+  pub put : DayPut t (beaten_by by k.flags t.hour) k.states conc flow k'.states conc' flow' weighed
+  pub view : r.view ≡ after_survey by v t.hour weighed.found
   pub sums : r.sums ≡ with_survey s weighed
-  pub flags_now : flags' ≡ set flags t.hour 1
-
--- a plant survey of a day
-pub record DayPlantTaken (v : View) (s : Sums) (t : Survey) (states flags conc flow states' conc' flow' : List ℕ) (r : Taken) : Type 0 where
-  pub weighed : Weighed
-  pub put : DayPut t (beats flags t.hour) states conc flow states' conc' flow' weighed
-  pub faults : r.fault ≡ fine
-  pub view : r.view ≡ after_plant v t.hour weighed.found
-  pub sums : r.sums ≡ with_survey s weighed
+  pub flags_now : k'.flags ≡ flags_by by k.flags t.hour
+  pub runs_stay : k'.runs ≡ k.runs
+  pub measured_stay : k'.measured ≡ k.measured
 
 -- what closing a line of an outfall asks
 pub record WaterEndReady (v : View) (s : Sums) (conc flow so_far : List ℕ) : Type 0 where

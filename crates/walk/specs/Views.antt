@@ -1,20 +1,20 @@
 -- The view and the sums after each kind of record that is not refused.
-use Rattle.std.specs.Prelude.{ℕ, ◌+◌, ◌-◌, ◌*◌, max, Bool, false, not, ◌||◌, eqb}
+use Rattle.std.specs.Prelude.{ℕ, ◌+◌, ◌-◌, ◌*◌, max, Bool, false, not, List, get_or, set, eqb}
 use Rattle.law.specs.Numbers.{hours_of_day}
-use Rattle.law.specs.Words.{need, pick}
+use Rattle.law.specs.Words.{pick}
 use Rattle.rules.specs.declared.Head.{Head}
 use Rattle.rules.specs.declared.Masks.{Masks}
 use Rattle.rules.specs.declared.Surveys.{Surveys}
 use Rattle.rules.specs.declared.Batch.{Batch}
 use Rattle.rules.specs.declared.View.{View}
 use Rattle.rules.specs.Hours.{running_of, missing_of}
-use Rattle.rules.specs.Judge.{refuse, fine, first, key, at_place}
+use Rattle.rules.specs.declared.Refused.{Refused}
+use Rattle.rules.specs.Judge.{key}
 use Rattle.rules.specs.Walk.{no_head}
 use Rattle.line.specs.declared.surveyed.Weighed.{Weighed}
 use Rattle.walk.specs.declared.books.Sums.{Sums}
-use Rattle.walk.specs.declared.take.Taken.{Taken}
-use Rattle.walk.specs.declared.turns.Progress.{Progress}
-use Rattle.walk.specs.declared.turns.Tally.{Tally}
+use Rattle.walk.specs.declared.books.By.{By}
+use Rattle.walk.specs.declared.books.By.TheVariants.{Enforcement, Plant}
 
 -- no survey yet
 abbrev pub no_surveys : Surveys
@@ -85,6 +85,28 @@ after_enforcement v hour found = moved_view v v.days v.running (v.missing - foun
 abbrev pub after_plant : View → ℕ → ℕ → View
 after_plant v hour found = moved_view v v.days v.running (v.missing - found) v.enforcement (one_more v.plant hour) v.batches v.fuel
 
+-- by whose survey it is: the surveys of its kind so far, and the view after it
+abbrev pub surveys_by : By → View → Surveys
+surveys_by Enforcement v = v.enforcement
+surveys_by Plant v = v.plant
+
+abbrev pub after_survey : By → View → ℕ → ℕ → View
+after_survey Enforcement v hour found = after_enforcement v hour found
+after_survey Plant v hour found = after_plant v hour found
+
+-- whether an hour or a day has an enforcement survey, by the flags of a quarter's hours
+abbrev pub beats : List ℕ → ℕ → Bool
+beats flags h = eqb (get_or flags h 0) 1
+
+-- whether a survey is beaten there, and the flags after it
+abbrev pub beaten_by : By → List ℕ → ℕ → Bool
+beaten_by Enforcement flags h = false
+beaten_by Plant flags h = beats flags h
+
+abbrev pub flags_by : By → List ℕ → ℕ → List ℕ
+flags_by Enforcement flags h = set flags h 1
+flags_by Plant flags h = flags
+
 abbrev pub after_batch : View → ℕ → View
 after_batch v kg = moved_view v v.days v.running v.missing v.enforcement v.plant (v.batches + 1) (kg + v.fuel)
 
@@ -107,15 +129,6 @@ with_survey s w = record { surveyed = s.surveyed + w.count; weight = w.weight + 
 abbrev pub with_fuel : Sums → Batch → Sums
 with_fuel s b = record { surveyed = s.surveyed; weight = s.weight; sulphur = max b.sulphur s.sulphur; ash = b.kg * b.ash + s.ash; used = s.used }
 
--- nothing is read yet
-abbrev pub at_start : Progress
-at_start = record { fault = fine; at = 0; view = opened_view false false 0 0 no_head; sums = no_sums }
-
--- after a record: the place after it; or, where it is refused, its fault at the file's place and nothing more to read
-abbrev pub moved_on : Taken → ℕ → ℕ → ℕ → Progress
-moved_on t at next end =
-    record { fault = at_place at t.fault; at = pick (eqb t.fault.number 0) next end; view = t.view; sums = t.sums }
-
--- what the walk hands back: 2 where a file that is not refused ends inside a line
-abbrev pub found_of : Progress → ℕ → Tally
-found_of p end = record { fault = first p.fault (need (refuse 2 end) (not (p.view.inside || p.view.water)) fine); lines = p.view.lines }
+-- a refusal of a record that stands at a place of the file
+abbrev pub behind : ℕ → Refused → Refused
+behind at f = record { refusal = f.refusal; place = at + f.place }

@@ -7,17 +7,14 @@ ghost use Rattle.fuel.specs.Fuel.{fuel_on_paper};
 ghost use Rattle.walk.specs.Closing.{grams_in, period_weight, DailyReady, daily_grams, GramsReady, line_grams, with_grams};
 
 use crate::books::Sums;
-use fuel::FuelFigure;
+use fuel::NoFigure;
 use rules::View;
 
-fn grams_in(f: FuelFigure) -> u64
+#[tactic(auto, unfolding(fuel::specs::Fuel::fuel_on_paper))]
+fn grams_in(f: Result<u64, NoFigure>) -> u64
     ensures { result ≡ grams_in (fuel_on_paper f) }
 {
-    match f {
-        FuelFigure::Grams(g) => g,
-        FuelFigure::WithoutEntry => 0,
-        FuelFigure::OutOfRange => 0,
-    }
+    f.unwrap_or(0)
 }
 
 // c x l of an hour or a day.

@@ -1,30 +1,45 @@
 -- `quarter::account` meets its contract: refused by the walk, too few cells for rows, or accepted. Assumes nothing.
-use mathlib.Core.Path.{refl}
+use mathlib.Core.Path.{refl, ap}
+use mathlib.Core.List.{List, ◌++◌}
+use Prim.Native.Nat.{ℕ, ◌*◌}
 use native.Mathlib.Omega.{arith}
-use Rattle.quarter.proofs.Promises.{lent, rows_most, table_long, promise_refused, promise_8, promise_0}
+use lib.ListN.{drop}
+use Rattle.rules.specs.Refusals.{answered}
+use Rattle.rules.specs.Judge.{refuse}
+use Rattle.rules.specs.Account.{refusal}
+use Rattle.walk.proofs.Asked.{err_is}
+use Rattle.quarter.proofs.Promises.{lent, rows_most, table_long, asked, asked_refused, promise_8, promise_0}
 use Rattle.quarter.proofs.account.Goals as goal
 
-pub returns-then-a-ne0 : goal.returns-then-a-ne0
-returns-then-a-ne0 c = promise_refused _ _ _ _ _ _ _ c.walk_file-w.ensures _ c.if-a-ne0.true
+pub returns-in_err-walked : goal.returns-in_err-walked
+returns-in_err-walked c = asked_refused _ _ _ _ _ _ c.walk_file.ensures _ c.in_err-walked.was _ (err_is _ _ c.from_residual.ensures.1) _
 
 pub overflow_mul-n : goal.overflow_mul-n
+unfolding answered
 overflow_mul-n c =
-    omega (arith, rows_most _ _ _ _ _ _ _ c.walk_file-w.ensures c.if-a-ne0.false)
+    let w = asked _ _ _ _ _ _ c.walk_file.ensures _ c.in_ok-walked.was in
+    omega (arith, rows_most _ _ _ _ _ _ _ w refl)
 
-pub too_few_rows-requires : goal.too_few_rows-requires
-too_few_rows-requires c =
-    let l = lent _ _ _ _ _ _ _ c.walk_file-w.ensures c.if-a-ne0.false in
-    (omega (arith, l.0, c.walk_file-w.auto.concentrations), omega (arith, l.1, c.walk_file-w.auto.flows))
+pub clear_work-requires : goal.clear_work-requires
+unfolding answered
+clear_work-requires c =
+    let l = lent _ _ _ _ _ _ _ (asked _ _ _ _ _ _ c.walk_file.ensures _ c.in_ok-walked.was) refl in
+    (omega (arith, l.0, c.walk_file.auto.concentrations), omega (arith, l.1, c.walk_file.auto.flows))
 
 pub returns-then-rows-n : goal.returns-then-rows-n
+unfolding answered refusal refuse
 returns-then-rows-n c =
-    promise_8 _ _ _ _ _ _ _ c.walk_file-w.ensures _ c.if-a-ne0.false c.if-rows-n.true _ _ _ c.walk_file-w.auto.concentrations c.walk_file-w.auto.flows
-    c.too_few_rows.ensures.0 c.too_few_rows.ensures.1 c.too_few_rows.ensures.2
+    promise_8 _ _ _ _ _ _ _ (asked _ _ _ _ _ _ c.walk_file.ensures _ c.in_ok-walked.was) _ refl c.if-rows-n.true _ _ _ c.walk_file.auto.concentrations c.walk_file.auto.flows
+    refl c.clear_work.ensures.0 c.clear_work.ensures.1
 
-pub slice_bounds-put_figures-end : goal.slice_bounds-put_figures-end
-slice_bounds-put_figures-end c =
-    omega (arith, rows_most _ _ _ _ _ _ _ c.walk_file-w.ensures c.if-a-ne0.false, table_long _ _ _ _ _ _ _ c.walk_file-w.ensures c.if-a-ne0.false)
+pub shared_ref_as_front-copy_from_slice : goal.shared_ref_as_front-copy_from_slice
+unfolding answered
+shared_ref_as_front-copy_from_slice c =
+    let w = asked _ _ _ _ _ _ c.walk_file.ensures _ c.in_ok-walked.was in
+    omega (arith, rows_most _ _ _ _ _ _ _ w refl)
 
 pub returns : goal.returns
+unfolding answered
 returns c =
-    promise_0 _ _ _ _ _ _ _ c.walk_file-w.ensures _ c.if-a-ne0.false _ refl c.if-rows-n.false _ c.put_figures.ensures
+    promise_0 _ _ _ _ _ _ _ (asked _ _ _ _ _ _ c.walk_file.ensures _ c.in_ok-walked.was) _ refl _ refl c.if-rows-n.false _
+    (ap (λ (t : List ℕ). t ++ drop (7 * c.in_ok-walked.walked.account.lines) c.args.rows.now) c.copy_from_slice.ensures.after)

@@ -1,5 +1,5 @@
 -- `line::surveyed::put_at` meets its contract. Assumes nothing.
-use mathlib.Core.Path.{refl, ap₂}
+use mathlib.Core.Path.{refl, ap₂, ◌∙◌}
 use Prim.Native.Nat.{◌*◌}
 use Rattle.line.proofs.Products.{product-fits}
 use Rattle.line.proofs.Surveys.{concentration-is, flow-is, cell_is, adds}
@@ -16,8 +16,8 @@ returns c =
     let n = concentration-is a.t _ c.flagged_pair-f.ensures in
     let m = flow-is a.t _ c.flagged_pair-f.ensures in
     record {
-      weighs = adds _ _ _ _ refl (ap₂ ◌*◌ n m) refl;
-      states_now = c.mark_state.ensures;
-      conc_now = cell_is (survey_c a.t) c.flagged_pair-f.result.concentration a.conc.now _ a.t.hour c.put_cell.ensures n;
-      flow_now = cell_is (survey_l a.t) c.flagged_pair-f.result.flow a.flow.now _ a.t.hour c.put_cell-2.ensures m;
+      weighs = adds _ _ _ _ refl (ap₂ ◌*◌ (c.from.ensures ∙ n) (c.from-2.ensures ∙ m)) refl;
+      states_now = c.put.ensures;
+      conc_now = cell_is (survey_c a.t) c.flagged_pair-f.result.concentration a.conc.now _ a.t.hour c.put-2.ensures n;
+      flow_now = cell_is (survey_l a.t) c.flagged_pair-f.result.flow a.flow.now _ a.t.hour c.put-3.ensures m;
     }

@@ -1,13 +1,13 @@
 -- `line::surveyed::put_survey` meets its contract: beaten, or put in by `mark_measured` and `put_at`. Assumes nothing.
 use mathlib.Core.Path.{refl}
 use Rattle.law.proofs.Tests.{pick_true, pick_false}
-use Rattle.line.proofs.Surveys.{put_found, tables_are}
+use Rattle.line.proofs.Surveys.{nothing-is, put_found, tables_are}
 use Rattle.line.proofs.surveyed.put_survey.Goals as goal
 
 pub returns-then-beaten : goal.returns-then-beaten
 returns-then-beaten c =
     let on = c.if-beaten.true in
-    record { weighs = pick_true _ _ _ _ on c.none_added.ensures; tables = pick_true _ _ _ _ on refl }
+    record { weighs = pick_true _ _ _ _ on (nothing-is _ c.default.ensures); tables = pick_true _ _ _ _ on refl }
 
 pub returns : goal.returns
 returns c =

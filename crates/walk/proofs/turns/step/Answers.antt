@@ -1,48 +1,24 @@
--- `walk::turns::step` meets its contract: a record is refused by the judge, or taken in, and the rules' walk goes on behind it. Assumes nothing.
-use native.Mathlib.Omega.{arith}
+-- `walk::turns::step` meets its contract: a record is refused by the judge, or taken in, wherever the walk stands. Assumes nothing.
 use mathlib.Core.List.{[]}
+use native.Mathlib.Omega.{arith}
+use Rattle.walk.proofs.Asked.{err_is}
 use Rattle.walk.proofs.Takes.{days_lent}
-use Rattle.walk.proofs.Going.{refused_within, step_refused, ready, fits, taken-within, step_on}
+use Rattle.walk.proofs.Going.{refused_step, ready, taken_step}
 use Rattle.walk.proofs.turns.step.Goals as goal
 
-pub judged-f-requires : goal.judged-f-requires
-judged-f-requires c =
-    let p = c.requires in
-    let g = p.0.goes (p.0.reads p.1) in
-    omega (arith, days_lent [] _ _ _ _ g.stand g.kept)
+pub judged-requires : goal.judged-requires
+judged-requires c = let p = c.requires in omega (arith, days_lent [] _ _ _ _ p.stand p.kept, p.kept.long.runs)
 
-pub moved_on-requires : goal.moved_on-requires
-moved_on-requires c =
-    let p = c.requires in
-    let g = p.0.goes (p.0.reads p.1) in
-    refused_within _ _ _ _ _ _ g p.1 _ c.read_record-r.ensures _ c.judged-f.ensures
+pub returns-in_err-judged : goal.returns-in_err-judged
+returns-in_err-judged c =
+    λ stand kept.
+    refused_step stand _ _ _ _ kept _ _ c.read_record-r.ensures _ c.judged.ensures _ c.in_err-judged.was _ (err_is _ _ c.from_residual.ensures.1) _ _
 
-pub returns-then-f-ne0 : goal.returns-then-f-ne0
-returns-then-f-ne0 c =
+pub take_in-requires : goal.take_in-requires
+take_in-requires c =
     let p = c.requires in
-    let g = p.0.goes (p.0.reads p.1) in
-    step_refused _ _ _ _ _ _ g p.1 _ c.read_record-r.ensures _ c.judged-f.ensures c.if-f-ne0.true _ c.moved_on.ensures
-
-pub overflow_add-next : goal.overflow_add-next
-overflow_add-next c =
-    let p = c.requires in
-    let g = p.0.goes (p.0.reads p.1) in
-    omega (arith, fits _ _ _ _ _ _ g p.1 _ c.read_record-r.ensures _ c.judged-f.ensures c.if-f-ne0.false, c.size_in.ensures, c)
-
-pub take_in-t-requires : goal.take_in-t-requires
-take_in-t-requires c =
-    let p = c.requires in
-    let g = p.0.goes (p.0.reads p.1) in
-    ready _ _ _ _ _ _ g p.1 _ c.read_record-r.ensures _ c.judged-f.ensures c.if-f-ne0.false
-
-pub moved_on-requires-2 : goal.moved_on-requires-2
-moved_on-requires-2 c =
-    let p = c.requires in
-    let g = p.0.goes (p.0.reads p.1) in
-    taken-within _ _ _ _ _ _ g p.1 _ c.read_record-r.ensures _ c.judged-f.ensures c.if-f-ne0.false _ _ _ c.take_in-t.ensures
+    record { stand = p.stand; ready = ready p.stand _ _ _ _ p.kept _ _ c.read_record-r.ensures _ c.judged.ensures c.in_ok-judged.was }
 
 pub returns : goal.returns
 returns c =
-    let p = c.requires in
-    let g = p.0.goes (p.0.reads p.1) in
-    step_on _ _ _ _ _ _ g p.1 _ c.read_record-r.ensures _ c.judged-f.ensures c.if-f-ne0.false _ _ _ c.take_in-t.ensures _ _ c.size_in.ensures c.moved_on-2.ensures
+    λ stand kept. taken_step stand _ _ _ _ kept _ _ c.read_record-r.ensures _ c.judged.ensures c.in_ok-judged.was _ _ _ c.take_in.ensures

@@ -1,15 +1,15 @@
--- `walk::turns::walk_records` meets its contract: what the walk has reached holds at each turn. Assumes nothing.
+-- `walk::turns::walk_records` meets its contract: at each turn the code's state stands for some lines. Assumes nothing.
 use mathlib.Core.Path.{◌≡◌}
 use Prim.Native.Nat.{◌-◌}
 use lib.ListN.{length}
 use Rattle.law.specs.Numbers.{most_hours}
-use Rattle.walk.specs.Books.{in_open, in_done}
-use Rattle.walk.specs.Walking.{Reached}
+use Rattle.walk.specs.Books.{open_in}
+use Rattle.walk.specs.Walking.{Going}
 use Rattle.walk.proofs.turns.walk_records.Given as goal
 
-abbrev pub invariant-loop-p : goal.invariant-loop-p
-invariant-loop-p l =
-    Reached l.file l.p (in_open l.runs l.measured l.states l.flags l.conc l.flow) (in_done l.rows l.totals) × (length l.conc ≡ most_hours) × (length l.flow ≡ most_hours)
+abbrev pub invariant-loop-at : goal.invariant-loop-at
+invariant-loop-at l =
+    Going l.file l.t.view l.t.sums l.at (open_in l.marks l.conc l.flow) l.done × (length l.conc ≡ most_hours) × (length l.flow ≡ most_hours)
 
-abbrev pub decreases-loop-p : goal.decreases-loop-p
-decreases-loop-p l = length l.file - l.p.at
+abbrev pub decreases-loop-at : goal.decreases-loop-at
+decreases-loop-at l = length l.file - l.at

@@ -1,0 +1,2 @@
+-- A survey judged by its kind and its world.
+pub mod Surveys
