@@ -1,34 +1,16 @@
--- `is_survey` from the numbers read one after the other, the part at the place that a search gives, and what the governing part can be. Assumes nothing.
-use mathlib.Core.Path.{◌≡◌, ◌∙◌, sym, ap}
+-- The part at the block that a search gives, and what the governing part can be. Assumes nothing.
+use mathlib.Core.Path.{◌≡◌, ◌∙◌, ap}
 use mathlib.Core.Logic.{◌⊎◌, inl, inr, ⊎_elim}
-use mathlib.Core.Bool.{false}
+use mathlib.Core.Bool.{true, false}
 use mathlib.Core.List.{List, []}
 use Prim.Native.Nat.{ℕ, ◌+◌, ◌-◌, ◌*◌, ◌/◌, ◌≤◌, ◌<◌}
 use native.Mathlib.Nat.{add-zero, min-eq_left}
 use native.Mathlib.Omega.{arith}
 use lib.ListN.{length, take, drop, length-take, length-drop}
-use lib.Dec.{eqb}
-use borrow.Author.Tests.{eq-eqb, ne_eqb}
 use denote.Ref.{Bor}
-use Rattle.law.specs.Words.{seek}
-use Rattle.law.proofs.Seek.{seek_agree}
-use Rattle.field.specs.Field.{u16}
+use Rattle.law.proofs.Seek.{seek_agree, seek_first, seek_none}
+use Rattle.std.specs.Prelude.{Option, Some, None, MatchOption}
 use Rattle.survey.specs.Governing.{is_survey, Part, part, survey_or, governing}
-
--- ---- a block
-module _ (s : List ℕ) (kind hour at x : ℕ) (ex : x ≡ u16 s at) where
-  pub other_length : (x ≡ 12 → ⊥) → false ≡ is_survey s kind hour at
-  unfolding is_survey
-  other_length n = simp (ne_eqb _ _ (λ (e : u16 s at ≡ 12). n (ex ∙ e)))
-
-  module _ (n : x ≡ 12) (y : ℕ) (ey : y ≡ u16 s (at + 2)) where
-    pub other_kind : (y ≡ kind → ⊥) → false ≡ is_survey s kind hour at
-    unfolding is_survey
-    other_kind m = simp (eq-eqb _ _ (sym ex ∙ n), ne_eqb _ _ (λ (e : u16 s (at + 2) ≡ kind). m (ey ∙ e)))
-
-    pub this_kind : y ≡ kind → (z : ℕ) → z ≡ u16 s (at + 4) → eqb z hour ≡ is_survey s kind hour at
-    unfolding is_survey
-    this_kind m z ez = simp (eq-eqb _ _ (sym ex ∙ n), eq-eqb _ _ (sym ey ∙ m), ez)
 
 -- ---- parts
 -- the part that is lent from a to a + 14 of a slice
@@ -45,23 +27,24 @@ unfolding part
 at-start r i = record { block = r.ref_ptr.0; offset = add-zero r.ref_ptr.1 i; bytes = [] }
 
 -- ---- the first survey of an hour in a slice
--- where it starts, or the length
-abbrev pub place_of : List ℕ → ℕ → ℕ → ℕ
-place_of s kind hour = seek (λ i. is_survey s kind hour (14 * i)) (λ i. 14 * i) (length s) 0 (length s / 14)
+-- a search over a range from 0 on
+pub from_zero : (r : Option ℕ) (n : ℕ) (Yes No : ℕ → Type 0) → MatchOption r ((k : ℕ) → 0 ≤ k → k < n → No k) (λ i. (0 ≤ i) × (i < n) × Yes i × ((k : ℕ) → 0 ≤ k → k < i → No k))
+    → MatchOption r ((k : ℕ) → k < n → No k) (λ i. (i < n) × Yes i × ((k : ℕ) → k < i → No k))
+from_zero None n Yes No h = λ k l. h k (omega arith) l
+from_zero (Some i) n Yes No h = (h.1, h.2, λ k l. h.3 k (omega arith) l)
 
--- what that place says of the part
-module _ (r : Bor (List ℕ)) (kind hour at : ℕ) (e : at ≡ place_of r.now kind hour) (other : Part) where
-  pub found : at < length r.now → (at + 14 ≤ length r.now) × (survey_or r kind hour other ≡ part r at 14)
+-- what the block says of the part
+module _ (r : Bor (List ℕ)) (kind hour : ℕ) (other : Part) where
+  pub found : (b : ℕ) → b < length r.now / 14 → is_survey r.now kind hour (14 * b) ≡ true → ((k : ℕ) → k < b → is_survey r.now kind hour (14 * k) ≡ false)
+      → survey_or r kind hour other ≡ part r (14 * b) 14
   unfolding survey_or
-  found l =
-      ⊎_elim (λ w. (omega (arith, e ∙ w.2), w.3 ∙ ap (λ (x : ℕ). part r x 14) (sym (e ∙ w.2)))) (λ w. absurd (omega (arith, e ∙ w.0)))
-      (seek_agree (λ i. is_survey r.now kind hour (14 * i)) (λ i. 14 * i) (length r.now) (λ i. part r (14 * i) 14) other 0 (length r.now / 14))
+  found b l t before =
+      seek_first (λ i. is_survey r.now kind hour (14 * i)) (λ i. part r (14 * i) 14) other (length r.now / 14) b l t before
 
-  pub missed : length r.now ≤ at → survey_or r kind hour other ≡ other
+  pub missed : ((k : ℕ) → k < length r.now / 14 → is_survey r.now kind hour (14 * k) ≡ false) → survey_or r kind hour other ≡ other
   unfolding survey_or
-  missed l =
-      ⊎_elim (λ w. absurd (omega (arith, e ∙ w.2))) (λ w. w.1)
-      (seek_agree (λ i. is_survey r.now kind hour (14 * i)) (λ i. 14 * i) (length r.now) (λ i. part r (14 * i) 14) other 0 (length r.now / 14))
+  missed none =
+      seek_none (λ i. is_survey r.now kind hour (14 * i)) (λ i. part r (14 * i) 14) other (length r.now / 14) none
 
 -- a survey's part has 14 bytes
 survey-shape : (r : Bor (List ℕ)) (kind hour : ℕ) (other : Part) → (length (survey_or r kind hour other).bytes ≡ 14) ⊎ (survey_or r kind hour other ≡ other)
