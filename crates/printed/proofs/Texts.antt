@@ -13,7 +13,7 @@ use Rattle.std.specs.Prelude.{Ok, Err}
 use Rattle.rules.specs.declared.Refusal.TheVariants.{TooLong}
 use Rattle.rules.specs.declared.Refused.{Refused as Refusing}
 use Rattle.rules.specs.declared.Account.{Account}
-use Rattle.rules.specs.Refusals.{Answer, number_of, fault_in, answered}
+use Rattle.rules.specs.Refusals.{Answer, fault_in, answered}
 use Rattle.rules.proofs.Refusals.{numbered}
 use Rattle.rules.specs.Outfalls.{Line}
 use Rattle.rules.specs.Row.{row_of, rows_of}
