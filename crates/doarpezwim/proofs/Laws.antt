@@ -1,41 +1,63 @@
 -- The promise of each face from what the call behind it promises. Assumes nothing.
+use mathlib.Core.Bool.{Bool, true, false}
 use mathlib.Core.Path.{◌≡◌, refl, ◌∙◌, sym, ap}
 use mathlib.Core.List.{List, [], ◌∷◌}
 use mathlib.Core.Logic.{⊎_elim}
-use Prim.Native.Nat.{ℕ, ◌≤◌, ◌<◌}
+use Prim.Native.Nat.{ℕ, ◌≤◌}
 use native.Mathlib.Omega.{arith}
+use lib.Dec.{leb}
 use lib.ListN.{length, get_or}
 use lib.Ieee.{Float}
 use denote.Ref.{Bor}
-use Rattle.law.proofs.Tests.{need_le, need_not_le, pick_eq, pick_not_eq}
-use Rattle.law.proofs.Over.{Writing, writing_done, over_all}
-use Rattle.law.proofs.Tabled.{table_is}
+use Rattle.std.specs.Prelude.{Option, Some, None, MatchOption, Result, Ok, Err}
+use Rattle.law.specs.Words.{need}
+use Rattle.law.proofs.Tests.{need_true, need_false, pick_eq, pick_not_eq}
 use Rattle.reading.specs.declared.Hour.{Hour}
-use Rattle.rules.specs.Refusals.{Answer}
+use Rattle.rules.specs.declared.Account.{Account}
+use Rattle.rules.specs.declared.Refused.{Refused}
+use Rattle.rules.specs.declared.Refusal.{Refusal}
+use Rattle.rules.specs.Refusals.{number_of, Answer, fault_in, told, answered}
+use Rattle.rules.specs.OnPaper.{OnPaper}
 use Rattle.rules.specs.Account.{Promise}
 use Rattle.panel.specs.declared.Panel.{Panel}
-use Rattle.panel.specs.declared.Stepped.{Stepped}
-use Rattle.panel.specs.Panel.{unchanged, panel_step}
-use Rattle.import.specs.declared.Imported.{Imported}
-use Rattle.import.specs.Import.{Promise as Imports}
-use Rattle.filed.specs.declared.Verdict.{Verdict}
-use Rattle.filed.specs.Filed.{verdict_on_paper, checked}
+use Rattle.panel.specs.declared.Stepped.{Stepped as Answered}
+use Rattle.panel.specs.Panel.{Stepped, number_in, stepped, unchanged, panel_step}
+use Rattle.import.specs.Import.{Imported, imported, Promise as Imports}
+use Rattle.filed.specs.Filed.{checked}
 use Rattle.survey.specs.Governing.{Part, here, governing}
 use Rattle.survey.proofs.Laws.{governing-shape}
 use Rattle.doarpezwim.specs.Faces.{answer_cells, AccountFace, hour_of_kind, face_step, PanelFace, PartFace, import_cells, ImportFace, verdict_cells_by, verdict_cells, CheckFace}
 
 -- ---- the account
-pub account_face : (file rows concentrations flows : List ℕ) (a : Answer) (answer' rows' concentrations' flows' : List ℕ) → Promise file rows concentrations flows a rows' concentrations' flows' → answer' ≡ answer_cells a → AccountFace file rows concentrations flows a.number answer' rows' concentrations' flows'
-account_face file rows concentrations flows a answer' rows' concentrations' flows' p e =
-    record { returns = ap (λ (x : Answer). x.number) p.answers; answers = e ∙ ap answer_cells p.answers; leaves = p.leaves; concentrations_hold = p.concentrations_hold; flows_hold = p.flows_hold }
+account_told : (x : Result Account Refused) → (told x).number ≡ (answered x).number
+unfolding told fault_in answered
+account_told (Ok a) = refl
+account_told (Err f) = refl
+
+pub account_face : (file rows concentrations flows : List ℕ) (x : Result Account Refused) (r : ℕ) (answer' rows' concentrations' flows' : List ℕ) → Promise file rows concentrations flows (answered x) rows' concentrations' flows'
+    → r ≡ (told x).number → answer' ≡ answer_cells (answered x) → AccountFace file rows concentrations flows r answer' rows' concentrations' flows'
+account_face file rows concentrations flows x r answer' rows' concentrations' flows' p n e =
+    record {
+      returns = n ∙ account_told x ∙ ap (λ (a : Answer). a.number) p.answers;
+      answers = e ∙ ap answer_cells p.answers;
+      leaves = p.leaves;
+      concentrations_hold = p.concentrations_hold;
+      flows_hold = p.flows_hold;
+    }
 
 -- ---- the import
-pub import_face : (text records : List ℕ) (a : Imported) (answer' records' : List ℕ) → Imports text records a records' → answer' ≡ import_cells a → ImportFace text records a.number answer' records'
-import_face text records a answer' records' p e =
-    record { near = p.near; nearest = p.nearest; returns = ap (λ (x : Imported). x.number) p.answers; answers = e ∙ ap import_cells p.answers; leaves = p.holds }
+import_told : (x : Result ℕ Refused) → (told x).number ≡ (imported x).number
+unfolding told fault_in imported
+import_told (Ok n) = refl
+import_told (Err f) = refl
+
+pub import_face : (text records : List ℕ) (x : Result ℕ Refused) (r : ℕ) (answer' records' : List ℕ) → Imports text records (imported x) records' → r ≡ (told x).number → answer' ≡ import_cells (imported x)
+    → ImportFace text records r answer' records'
+import_face text records x r answer' records' p n e =
+    record { near = p.near; nearest = p.nearest; returns = n ∙ import_told x ∙ ap (λ (a : Imported). a.number) p.answers; answers = e ∙ ap import_cells p.answers; leaves = p.holds }
 
 -- ---- what is said of a filing
-module _ (file rows totals : List ℕ) (v : Verdict) (cells : List ℕ) (p : verdict_on_paper v ≡ checked file rows totals) (e : cells ≡ verdict_cells (verdict_on_paper v)) where
+module _ (file rows totals : List ℕ) (said : OnPaper) (cells : List ℕ) (p : said ≡ checked file rows totals) (e : cells ≡ verdict_cells said) where
   said-by : (number : ℕ) (values : List ℕ) → get_or (verdict_cells_by number values) 0 0 ≤ 2
   unfolding verdict_cells_by
   said-by number [] = omega arith
@@ -45,7 +67,7 @@ module _ (file rows totals : List ℕ) (v : Verdict) (cells : List ℕ) (p : ver
   -- the first cell is one of three
   pub said-most : get_or cells 0 0 ≤ 2
   unfolding verdict_cells
-  said-most = rw e (said-by (verdict_on_paper v).number (verdict_on_paper v).values)
+  said-most = rw e (said-by said.number said.values)
 
   pub check_face : CheckFace file rows totals (get_or cells 0 0) cells
   check_face = let q = e ∙ ap verdict_cells p in record { returns = ap (λ (xs : List ℕ). get_or xs 0 0) q; answers = q }
@@ -56,19 +78,37 @@ module _ (p : Panel) (kind : ℕ) (concentration flow : Float) where
   face s e =
       record { returns = ap (λ (x : Stepped). x.number) e; total_after = ap (λ (x : Stepped). x.next.total) e; hours_after = ap (λ (x : Stepped). x.next.hours) e; missing_after = ap (λ (x : Stepped). x.next.missing) e }
 
-  pub no_kind : 2 < kind → PanelFace p kind concentration flow 15 p.total p.hours p.missing
-  unfolding face_step unchanged
-  no_kind h = face (unchanged 15 p) (need_not_le _ _ kind 2 h)
+  -- by the test of the kind, as the hour is found or not
+  no_kind : (fits : Bool) (h : Hour) → None ≡ need None fits (Some h) → fits ≡ false
+  unfolding need
+  no_kind true h e = absurd (let z : ◌≡◌ {A = ℕ} 0 1 = cc in omega arith)
+  no_kind false h e = refl
 
-  pub some_kind : kind ≤ 2 → (h : Hour) (s : Stepped) → h ≡ hour_of_kind kind concentration flow → s ≡ panel_step p h → PanelFace p kind concentration flow s.number s.next.total s.next.hours s.next.missing
+  some_kind : (fits : Bool) (g h : Hour) → Some g ≡ need None fits (Some h) → (fits ≡ true) × (g ≡ h)
+  unfolding need
+  some_kind true g h e = (refl, let z : g ≡ h = cc in z)
+  some_kind false g h e = absurd (let z : ◌≡◌ {A = ℕ} 0 1 = cc in omega arith)
+
+  pub no_hour : (r : ℕ) → None ≡ need None (leb kind 2) (Some (hour_of_kind kind concentration flow)) → r ≡ 15 → PanelFace p kind concentration flow r p.total p.hours p.missing
+  unfolding face_step unchanged
+  no_hour r e n =
+      let is = face (unchanged 15 p) (need_false _ (leb kind 2) _ (no_kind (leb kind 2) _ e)) in
+      record { returns = n ∙ is.returns; total_after = is.total_after; hours_after = is.hours_after; missing_after = is.missing_after }
+
+  -- the number of an hour's answer
+  answer_number : (o : Option Refusal) (r : ℕ) → MatchOption o (r ≡ 0) (λ x. r ≡ number_of x) → r ≡ number_in o
+  answer_number None r e = e
+  answer_number (Some x) r e = e
+
+  pub some_hour : (h : Hour) (s : Answered) (r : ℕ) → Some h ≡ need None (leb kind 2) (Some (hour_of_kind kind concentration flow)) → stepped s ≡ panel_step p h → MatchOption s.refused (r ≡ 0) (λ x. r ≡ number_of x)
+      → PanelFace p kind concentration flow r s.next.total s.next.hours s.next.missing
   unfolding face_step
-  some_kind l h s e f = face s (need_le _ _ _ kind 2 l (f ∙ ap (panel_step p) e))
+  some_hour h s r e f n =
+      let k = some_kind (leb kind 2) h _ e in
+      let is = face (stepped s) (need_true _ (leb kind 2) _ (stepped s) k.0 (f ∙ ap (panel_step p) k.1)) in
+      record { returns = answer_number s.refused r n ∙ is.returns; total_after = is.total_after; hours_after = is.hours_after; missing_after = is.missing_after }
 
 -- ---- the part
-pub copied : (from part₀ part : List ℕ) (i : ℕ) → length from ≡ 14 → length part₀ ≡ 14 → Writing (λ k. get_or from k 0) part₀ part i → i ≡ 14 → part ≡ from
-copied from part₀ part i e l w h =
-    writing_done _ _ _ i 14 w h ∙ over_all _ 14 part₀ (omega arith) ∙ sym (table_is (λ k. get_or from k 0) 14 0 from e (λ k m. refl))
-
 -- the block in hand is the governing part
 module _ (enforcement plant block : Bor (List ℕ)) (hour : ℕ) (part : List ℕ) (e : here block ≡ governing enforcement plant hour) where
   abbrev bytes : List ℕ
@@ -78,8 +118,8 @@ module _ (enforcement plant block : Bor (List ℕ)) (hour : ℕ) (part : List �
   unfolding here
   held = ap (λ (x : Part). x.bytes) e
 
-  pub part-found : (part' : List ℕ) → length block.now ≡ 14 → part' ≡ block.now → PartFace bytes part 14 part'
-  part-found part' l q =
+  pub part_found : (part' : List ℕ) → length block.now ≡ 14 → part' ≡ block.now → PartFace bytes part 14 part'
+  part_found part' l q =
       let h : length bytes ≡ 14 = sym (ap length held) ∙ l in
       record { returns = sym h; leaves = pick_eq _ _ _ (length bytes) 14 h (q ∙ held) }
 

@@ -8,11 +8,9 @@ use Rattle.rules.specs.Refusals.{Answer}
 use Rattle.rules.specs.Row.{concentration_cells, flow_cells}
 use Rattle.rules.specs.Account.{answer_of, rows_after, work_after}
 use Rattle.panel.specs.declared.Panel.{Panel}
-use Rattle.panel.specs.declared.Stepped.{Stepped}
-use Rattle.panel.specs.Panel.{unchanged, panel_step}
+use Rattle.panel.specs.Panel.{Stepped, unchanged, panel_step}
 use Rattle.import.specs.Nearest.{ToNearest}
-use Rattle.import.specs.declared.Imported.{Imported}
-use Rattle.import.specs.Import.{answer_of as importOf, buffer_after}
+use Rattle.import.specs.Import.{Imported, answer_of as importOf, buffer_after}
 use Rattle.rules.specs.OnPaper.{OnPaper}
 use Rattle.filed.specs.Filed.{checked}
 

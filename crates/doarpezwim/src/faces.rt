@@ -1,69 +1,88 @@
-// What stands between the faces and the calls behind them: an answer in its cells, an hour by its kind, a part copied out.
-ghost use Rattle.std.specs.Prelude.{◌≡◌, length};
+// What stands between the faces and the calls behind them: the number of an answer, an answer in its cells, an hour by its kind.
+// Kept: functions and no `From`, since neither a `Result` of another crate nor an array of cells is a type of this one.
+#![tactic(auto, using(law::proofs::Tests::judged), unfolding(crate::specs::Opened::faces))]
+
+ghost use Rattle.std.specs.Prelude.{◌≡◌, Some, None, leb};
+ghost use Rattle.law.specs.Words.{need};
+ghost use Rattle.rules.specs.Refusals.{told, answered};
+ghost use Rattle.import.specs.Import.{imported};
 ghost use Rattle.filed.specs.Filed.{verdict_on_paper};
 ghost use Rattle.doarpezwim.specs.Faces.{answer_cells, import_cells, verdict_cells, hour_of_kind};
 
 use filed::Verdict;
-use import::Imported;
 use reading::Hour;
-use rules::Answer;
+use rules::{Account, Refused};
+
+// The number of an answer, 0 where it is no refusal.
+pub fn number<T>(said: &Result<T, Refused>) -> u32
+    ensures { result ≡ (told said.now).number }
+{
+    match said {
+        Ok(_) => 0,
+        Err(f) => u32::from(f.refusal),
+    }
+}
 
 // The answer goes out in eight cells, so that no caller depends on how a struct lies in memory.
-pub fn answer_cells(a: Answer) -> [u64; 8]
-    ensures { result ≡ answer_cells a }
+pub fn answer_cells(said: Result<Account, Refused>) -> [u64; 8]
+    ensures { result ≡ answer_cells (answered said) }
 {
-    let totals = a.totals;
-    [
-        a.number as u64,
-        a.place as u64,
-        a.rows as u64,
-        totals[0],
-        totals[1],
-        totals[2],
-        totals[3],
-        totals[4],
-    ]
+    match said {
+        Ok(account) => {
+            let [sulphur, oxides, dust, oxygen, ammonia] = account.totals;
+            [
+                0,
+                0,
+                account.lines as u64,
+                sulphur,
+                oxides,
+                dust,
+                oxygen,
+                ammonia,
+            ]
+        }
+        Err(f) => [
+            u64::from(u32::from(f.refusal)),
+            f.place as u64,
+            0,
+            0,
+            0,
+            0,
+            0,
+            0,
+        ],
+    }
 }
 
 // The answer of an import, likewise.
-pub fn import_cells(a: Imported) -> [u64; 3]
-    ensures { result ≡ import_cells a }
+pub fn import_cells(said: Result<usize, Refused>) -> [u64; 3]
+    ensures { result ≡ import_cells (imported said) }
 {
-    [a.number as u64, a.line as u64, a.count as u64]
+    match said {
+        Ok(count) => [0, 0, count as u64],
+        Err(f) => [u64::from(u32::from(f.refusal)), f.place as u64, 0],
+    }
 }
 
 // What is said of a filing, likewise: it agrees, it is wrong, it is refused.
-pub fn verdict_cells(v: Verdict) -> [u64; 3]
-    ensures { result ≡ verdict_cells (verdict_on_paper v) }
+pub fn verdict_cells(said: Result<Verdict, Refused>) -> [u64; 3]
+    ensures { result ≡ verdict_cells (verdict_on_paper said) }
 {
-    match v {
-        Verdict::Agrees => [0, 0, 0],
-        Verdict::Wrong(row, field) => [1, row as u64, field as u64],
-        Verdict::Refused(f) => [2, f.number as u64, f.place as u64],
+    match said {
+        Ok(Verdict::Agrees) => [0, 0, 0],
+        Ok(Verdict::Wrong(row, field)) => [1, row as u64, field as u64],
+        Err(f) => [2, u64::from(u32::from(f.refusal)), f.place as u64],
     }
 }
 
-// Kind 0 is a stopped hour, 1 a missing one, 2 a measured one.
-pub fn hour_of_kind(kind: u32, concentration: f32, flow: f32) -> Hour
-    ensures { result ≡ hour_of_kind kind concentration flow }
+// Kind 0 is a stopped hour, 1 a missing one, 2 a measured one; there is no other.
+pub fn hour_of_kind(kind: u32, concentration: f32, flow: f32) -> Option<Hour>
+    ensures { result ≡ need None (leb kind 2) (Some (hour_of_kind kind concentration flow)) }
 {
-    if kind == 0 {
-        return Hour::Stopped;
-    }
-    if kind == 1 {
-        return Hour::Missing;
-    }
-    Hour::Measured(concentration, flow)
-}
-
-// `part` is a slice here: a loop learns the length of no array behind a reference.
-pub fn copy_part(from: &[u8], part: &mut [u8])
-    requires { (length from.now ≡ 14) × (length part.old ≡ 14) }
-    ensures { part.new ≡ from.now }
-{
-    let mut i: usize = 0;
-    while i < 14 {
-        part[i] = from[i];
-        i += 1;
+    match kind {
+        0 => Some(Hour::Stopped),
+        1 => Some(Hour::Missing),
+        2 => Some(Hour::Measured(concentration, flow)),
+        _ => None,
     }
 }

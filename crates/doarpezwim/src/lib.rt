@@ -4,7 +4,8 @@
 ghost use Rattle.survey.specs.Governing.{governing};
 ghost use Rattle.doarpezwim.specs.Faces.{panel_of, AccountFace, PanelFace, PartFace, ImportFace, CheckFace};
 
-use panel::Panel;
+use panel::{Panel, Stepped};
+use rules::Refusal;
 
 mod faces;
 
@@ -18,9 +19,9 @@ pub fn doarpezwim_account(
     ensures { AccountFace file.now rows.old concentration.old flow.old
         result answer.new rows.new concentration.new flow.new }
 {
-    let a = quarter::account(file, rows, concentration, flow);
-    *answer = faces::answer_cells(a);
-    a.number
+    let account = quarter::account(file, rows, concentration, flow);
+    *answer = faces::answer_cells(account);
+    faces::number(&account)
 }
 
 // An unknown kind is refused before the state is looked at.
@@ -35,20 +36,19 @@ pub fn doarpezwim_panel_hour(
     ensures { PanelFace (panel_of total.old hours.old missing.old) kind concentration flow
         result total.new hours.new missing.new }
 {
-    if kind > 2 {
-        return 15;
-    }
-    let p = Panel {
+    let Some(hour) = faces::hour_of_kind(kind, concentration, flow) else {
+        return u32::from(Refusal::MaskField);
+    };
+    let state = Panel {
         total: *total,
         hours: *hours,
         missing: *missing,
     };
-    let s = p.hour(faces::hour_of_kind(kind, concentration, flow));
-    let next = s.next;
+    let Stepped { refused, next } = state.hour(hour);
     *total = next.total;
     *hours = next.hours;
     *missing = next.missing;
-    s.number
+    refused.map_or(0, u32::from)
 }
 
 // The export behind hands no reference back, so the block is copied out.
@@ -60,28 +60,26 @@ pub fn doarpezwim_governing_survey<'a>(
 ) -> u32
     ensures { PartFace (governing enforcement.entry plant.entry hour).bytes part.old result part.new }
 {
-    let block = survey::governing_survey(enforcement, plant, hour);
-    if block.len() == 14 {
-        faces::copy_part(block, part);
-        return 14;
-    }
-    0
+    let Ok(block) = <[u8; 14]>::try_from(survey::governing_survey(enforcement, plant, hour)) else {
+        return 0;
+    };
+    *part = block;
+    14
 }
 
 // Three cells for the answer: number, line, and how many bytes of records were written.
 pub fn doarpezwim_import(text: &[u8], records: &mut [u8], answer: &mut [u64; 3]) -> u32
     ensures { ImportFace text.now records.old result answer.new records.new }
 {
-    let said = import::import_days(text, records);
-    *answer = faces::import_cells(said);
-    said.number
+    let imported = import::import_days(text, records);
+    *answer = faces::import_cells(imported);
+    faces::number(&imported)
 }
 
 // Three cells for the answer: whether it agrees, is wrong or refused, and row and field, or number and place.
 pub fn doarpezwim_check(file: &[u8], rows: &[u64], totals: &[u64; 5], answer: &mut [u64; 3]) -> u32
     ensures { CheckFace file.now rows.now totals.now result answer.new }
 {
-    let cells = faces::verdict_cells(filed::check_filed(file, rows, totals));
-    *answer = cells;
-    cells[0] as u32
+    *answer = faces::verdict_cells(filed::check_filed(file, rows, totals));
+    answer[0] as u32
 }

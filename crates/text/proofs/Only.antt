@@ -1,8 +1,11 @@
--- No second count or buffer meets the promise of a text call. Assumes nothing.
+-- No second count or buffer meets the promise of a text call, and a refusal is said in one way. Assumes nothing.
 use mathlib.Core.Path.{◌≡◌, ◌∙◌, sym}
 use mathlib.Core.List.{List}
 use Prim.Native.Nat.{ℕ}
+use Rattle.rules.specs.declared.Refused.{Refused as Refusing}
+use Rattle.rules.specs.Refusals.{number_of}
 use Rattle.text.specs.declared.Said.{Said}
+use Rattle.text.specs.declared.Said.TheVariants.{Refused}
 use Rattle.text.specs.Line.{said_line}
 use Rattle.text.specs.Text.{Text, stated_lines}
 
@@ -17,3 +20,6 @@ module _ (old new₁ new₂ : List ℕ) (r₁ r₂ : ℕ) where
   pub stated-text : (rows : List ℕ) (n : ℕ) (totals : List ℕ) → Text (stated_lines rows n totals) old new₁ r₁ → Text (stated_lines rows n totals) old new₂ r₂
       → (r₁ ≡ r₂) × (new₁ ≡ new₂)
   stated-text rows n totals = text_only (stated_lines rows n totals)
+
+pub said_from : (f : Refusing) (s t : Said) → s ≡ Refused (number_of f.refusal) f.place → t ≡ Refused (number_of f.refusal) f.place → s ≡ t
+said_from f s t p q = p ∙ sym q

@@ -9,6 +9,12 @@ use lib.Dec.{leb}
 use Rattle.law.specs.Words.{need}
 use Rattle.law.proofs.Tests.{need_le, need_not_le, need_case}
 use Rattle.law.specs.Written.{Wrote}
+use Rattle.rules.specs.declared.Refused.{Refused as Refusing}
+use Rattle.rules.specs.Refusals.{number_of, fault_in}
+use Rattle.rules.specs.Judge.{refuse}
+use Rattle.text.specs.declared.Said.{Said}
+use Rattle.text.specs.declared.Said.TheVariants.{Refused}
+use Rattle.text.specs.Line.{refused_line, said_line}
 use Rattle.text.specs.Text.{Text, stated_text, stated_lines}
 
 -- ---- a text from the start of the buffer
@@ -65,3 +71,8 @@ module _ (rows : List ℕ) (n : ℕ) (totals : List ℕ) where
   pub all_there : n ≤ 48 → 7 * n ≤ length rows → stated_text rows n totals ≡ stated_lines rows n totals
   unfolding stated_lines
   all_there m l = need_le [] _ _ n 48 m (need_le [] _ _ (7 * n) (length rows) l refl)
+
+-- ---- a refusal is said by its number and place
+pub said_of : (f : Refusing) (s : Said) → s ≡ Refused (number_of f.refusal) f.place → said_line s ≡ refused_line (fault_in f)
+unfolding said_line refuse fault_in
+said_of f s e = ap said_line e

@@ -1,13 +1,16 @@
 // The texts that the programs print, written into a lent buffer: a refusal, rows and totals, what is said of a filing.
 #![tactic(auto)]
 
-ghost use Rattle.std.specs.Prelude.{◌+◌, ◌*◌, ◌<◌, ◌≤◌, [], ◌∷◌, ◌++◌, flat_map, length};
+ghost use Rattle.std.specs.Prelude.{◌≡◌, ◌+◌, ◌*◌, ◌<◌, ◌≤◌, [], ◌∷◌, ◌++◌, flat_map, length};
 ghost use Rattle.law.specs.Written.{Wrote};
+ghost use Rattle.rules.specs.Refusals.{number_of};
+ghost use Rattle.text.specs.declared.Said.TheVariants.{Refused};
 ghost use Rattle.text.specs.Line.{said_line};
 ghost use Rattle.text.specs.Numbers.{spaced};
 ghost use Rattle.text.specs.Text.{Text, stated_lines};
 
 use crate::writing::{put_bytes, put_spaced};
+use rules::Refused;
 
 mod writing;
 
@@ -23,6 +26,14 @@ pub enum Said {
     Refused(u64, u64),
     Wrong(u64, u64),
     Yes,
+}
+
+impl From<Refused> for Said {
+    ghost from_gives = { λ f s. s ≡ Refused (number_of f.refusal) f.place };
+
+    fn from(f: Refused) -> Said {
+        Said::Refused(u64::from(u32::from(f.refusal)), f.place as u64)
+    }
 }
 
 // A word, two numbers and a line feed, at the start; a number is at most 20 bytes long.

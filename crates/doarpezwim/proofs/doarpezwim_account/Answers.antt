@@ -3,4 +3,4 @@ use Rattle.doarpezwim.proofs.Laws.{account_face}
 use Rattle.doarpezwim.proofs.doarpezwim_account.Goals as goal
 
 pub returns : goal.returns
-returns c = account_face _ _ _ _ _ _ _ _ _ c.account-a.ensures c.answer_cells.ensures
+returns c = account_face _ _ _ _ _ _ _ _ _ _ c.account-account.ensures c.number.ensures c.answer_cells.ensures

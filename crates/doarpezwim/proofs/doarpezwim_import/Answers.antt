@@ -3,4 +3,4 @@ use Rattle.doarpezwim.proofs.Laws.{import_face}
 use Rattle.doarpezwim.proofs.doarpezwim_import.Goals as goal
 
 pub returns : goal.returns
-returns c = import_face _ _ _ _ _ c.import_days-said.ensures c.import_cells.ensures
+returns c = import_face _ _ _ _ _ _ c.import_days-imported.ensures c.number.ensures c.import_cells.ensures
