@@ -29,10 +29,6 @@ use Rattle.fills.specs.Weights.{products}
 use Rattle.fills.proofs.Bounds.{largest-each, filled-most, products-most}
 use Rattle.walk.specs.Closing.{Limits, period_weight, daily_grams, line_grams, LineGrams}
 
--- the parts of the cells that are weighed are those of the period
-pub parts_weigh : (conc flow : List ℕ) (n : ℕ) → products (take (n - 0) (drop 0 conc)) (take (n - 0) (drop 0 flow)) ≡ period_weight n conc flow
-parts_weigh conc flow n = let z : n - 0 ≡ n = omega arith in ap (λ (k : ℕ). products (take k conc) (take k flow)) z
-
 -- a day of an outfall adds at most one
 pub ran_one : (state : ℕ) → ran_by state ≤ 1
 ran_one state = pick_case (λ (n : ℕ). n ≤ 1) (eqb state 0) 0 1 (λ _. omega arith) (λ _. omega arith)

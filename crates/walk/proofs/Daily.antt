@@ -81,8 +81,8 @@ module _ (old new : List (Slot Pair)) (i : ℕ) (a : Slot Pair) (own : get_or ne
       by (no n) = get_or-set_other states i d v 0 n ∙ rest n ∙ ap state_of_slot (sym (other d n))
 
 -- ---- one survey more, over the surveys of a line of either world
-module _ (period : ℕ) (es ss : List Survey) (t : Survey) {count weight : ℕ} {flags : List ℕ} (y : SurveysKept period es ss count weight flags) where
-  pub survey-more : (es' ss' : List Survey) (flags' : List ℕ) → ss' ≡ t ∷ ss → flags' ≡ table (flag_at es') most_hours → ((h : ℕ) → period ≤ h → get_or flags' h 0 ≡ 0)
+module _ (period : ℕ) (es ss : List Survey) (t : Survey) {count weight : ℕ} {flags : List Bool} (y : SurveysKept period es ss count weight flags) where
+  pub survey-more : (es' ss' : List Survey) (flags' : List Bool) → ss' ≡ t ∷ ss → flags' ≡ table (flag_at es') most_hours → ((h : ℕ) → period ≤ h → get_or flags' h false ≡ false)
       → (values_of t.pair).c ≤ most_concentration → (values_of t.pair).l ≤ most_flow
       → SurveysKept period es' ss' (count + 1) ((values_of t.pair).c * (values_of t.pair).l + weight) flags'
   unfolding sum_of amount survey_values
@@ -99,17 +99,17 @@ module _ (period : ℕ) (es ss : List Survey) (t : Survey) {count weight : ℕ} 
   unfolding flag_at has_survey
   flag_other h n = rw (ne_eqb h t.hour n)
 
-  flag_own : flag_at (t ∷ es) t.hour ≡ 1
+  flag_own : flag_at (t ∷ es) t.hour ≡ true
   unfolding flag_at has_survey pick
   flag_own = rw (eq-eqb t.hour t.hour refl)
 
   -- the flag of one of the enforcement is set
   pub flag_more : t.hour < period → period ≤ most_hours
-      → (set flags t.hour 1 ≡ table (flag_at (t ∷ es)) most_hours) × ((h : ℕ) → period ≤ h → get_or (set flags t.hour 1) h 0 ≡ 0)
+      → (set flags t.hour true ≡ table (flag_at (t ∷ es)) most_hours) × ((h : ℕ) → period ≤ h → get_or (set flags t.hour true) h false ≡ false)
   flag_more l m = (
-    ap (λ (u : List ℕ). set u t.hour 1) y.flagged
-        ∙ table_set (flag_at es) (flag_at (t ∷ es)) most_hours t.hour 1 0 (omega arith) flag_own (λ h _ n. flag_other h n),
-    λ h p. get_or-set_other flags t.hour h 1 0 (λ q. absurd (omega (arith, q, p, l))) ∙ y.past h p,
+    ap (λ (u : List Bool). set u t.hour true) y.flagged
+        ∙ table_set (flag_at es) (flag_at (t ∷ es)) most_hours t.hour true false (omega arith) flag_own (λ h _ n. flag_other h n),
+    λ h p. get_or-set_other flags t.hour h true false (λ q. absurd (omega (arith, q, p, l))) ∙ y.past h p,
   )
 
 -- ---- an accepted pair's kept values are its values
@@ -199,7 +199,7 @@ no_cells w f most z =
     record { hold = table_same (λ k. 0) (λ d. f (values_at (outfall_days (begun_outfall w)) d)) most_hours (λ k m. sym z); within = λ k. omega (arith, z) }
 
 pub begun_outfall-books : (w : Outfall) (ran measured states : List ℕ) → w.days ≤ most_days → (1 ≤ w.pollutant) × (w.pollutant ≤ total_cells)
-    → WaterBooks (begun_outfall w) (opened_sums (as_head w) true) (in_open ran measured states (table (λ k. 0) most_hours) (table (λ k. 0) most_hours) (table (λ k. 0) most_hours))
+    → WaterBooks (begun_outfall w) (opened_sums (as_head w) true) (in_open ran measured states (table (λ k. false) most_hours) (table (λ k. 0) most_hours) (table (λ k. 0) most_hours))
 unfolding begun_outfall states_of outfall_surveys surveyed_days besides as_head sum_of flag_at has_survey pick zeroes
 begun_outfall-books w ran measured states l p =
     record {
@@ -207,7 +207,7 @@ begun_outfall-books w ran measured states l p =
       states = λ d m. absurd (omega arith);
       concentrations = no_cells w (λ v. v.c) most_concentration refl;
       flows = no_cells w (λ v. v.l) most_flow refl;
-      surveys = record { flagged = refl; past = λ k m. table_zero most_hours k; counted = refl; weighed = refl; most = omega arith };
+      surveys = record { flagged = refl; past = λ k m. table_zero false most_hours k; counted = refl; weighed = refl; most = omega arith };
       used = refl;
       pollutant = p;
       period = l;
@@ -323,7 +323,7 @@ module _ (x : OutfallLine) (es ps : List Survey) (t : Survey) (speaks : surveyed
     stood_states h m =
         moved_states (outfall_days x) (outfall_days y) t.hour (valid t.pair) stood_own stood_other o.states 2 (omega (arith, k.period, long.states)) refl h (λ n. k.states h m)
 
-    stood_books : (flags' : List ℕ) (found : ℕ) → flags' ≡ table (flag_at es) most_hours → ((h : ℕ) → x.head.days ≤ h → get_or flags' h 0 ≡ 0) → length es + length ps ≤ most_surveys
+    stood_books : (flags' : List Bool) (found : ℕ) → flags' ≡ table (flag_at es) most_hours → ((h : ℕ) → x.head.days ≤ h → get_or flags' h false ≡ false) → length es + length ps ≤ most_surveys
         → (values_of t.pair).c ≤ most_concentration → (values_of t.pair).l ≤ most_flow
         → WaterBooks y (with_survey s (standing (values_of t.pair).c (values_of t.pair).l found))
         (in_open o.runs o.measured (set o.states t.hour 2) flags' (set o.concentrations t.hour (values_of t.pair).c) (set o.flows t.hour (values_of t.pair).l))
@@ -369,14 +369,14 @@ module _ (x : OutfallLine) (t : Survey) {s : Sums} {o : Open} (k : WaterBooks x 
     abbrev l : ℕ
     l = (values_of t.pair).l
 
-    abbrev after : List ℕ → Open
+    abbrev after : List Bool → Open
     after flags' = in_open o.runs o.measured (set o.states t.hour 2) flags' (set o.concentrations t.hour c) (set o.flows t.hour l)
 
-    pub day_enforcement_books : x.plant ≡ [] → WaterBooks (with_day_enforcement x t) (with_survey s (standing c l found)) (after (set o.flags t.hour 1))
+    pub day_enforcement_books : x.plant ≡ [] → WaterBooks (with_day_enforcement x t) (with_survey s (standing c l found)) (after (set o.flags t.hour true))
     unfolding with_day_enforcement outfall_surveys values_of
     day_enforcement_books none =
         let f = flag_more x.head.days x.enforcement (surveyed_days x) t k.surveys hour (omega (arith, k.period)) in
-        stood_books x (t ∷ x.enforcement) x.plant t (enforced none) k long all_days hour (set o.flags t.hour 1) found f.0 f.1 (omega arith) ok.concentration-most ok.flow-most
+        stood_books x (t ∷ x.enforcement) x.plant t (enforced none) k long all_days hour (set o.flags t.hour true) found f.0 f.1 (omega arith) ok.concentration-most ok.flow-most
 
     pub day_plant_books : has_survey t.hour x.enforcement ≡ false → WaterBooks (with_day_plant x t) (with_survey s (standing c l found)) (after o.flags)
     unfolding with_day_plant outfall_surveys values_of

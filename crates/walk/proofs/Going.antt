@@ -69,7 +69,7 @@ pub zeros : (n : ℕ) → table {A = ℕ} (λ h. 0) n ≡ replicate n 0
 zeros n = sym (table_is (λ h. 0) n 0 (replicate n 0) (length-replicate n 0) (λ k l. get_or-replicate n k 0 0 l))
 
 pub going_start : (file : List ℕ) (v : View) (s : Sums) (o : Open) (d : Done) → v ≡ opened_view false false 0 0 no_head → s.used ≡ 0
-    → length o.runs ≡ most_days → length o.measured ≡ most_days → length o.states ≡ most_hours → o.flags ≡ replicate most_hours 0
+    → length o.runs ≡ most_days → length o.measured ≡ most_days → length o.states ≡ most_hours → o.flags ≡ replicate most_hours false
     → o.concentrations ≡ cells [] → o.flows ≡ cells [] → d.rows ≡ no_rows → d.totals ≡ replicate total_cells 0 → Going file v s 0 o d
 unfolding outcome records_of rows_of totals_of total_of sum_of concentration_cells flow_cells cells no_rows
 going_start file v s o d ve se rl ml sl g c f ol tl =
@@ -81,7 +81,7 @@ going_start file v s o d ve se rl ml sl g c f ol tl =
           record {
             rows = ol;
             totals = tl ∙ sym (zeros total_cells);
-            most = λ i. omega (arith, ap (λ (t : List ℕ). get_or t i 0) tl ∙ replicate_zero total_cells i);
+            most = λ i. omega (arith, ap (λ (t : List ℕ). get_or t i 0) tl ∙ replicate_zero 0 total_cells i);
             long = ap length ol ∙ length-replicate {A = ℕ} most_cells 0;
           };
       long =
@@ -89,7 +89,7 @@ going_start file v s o d ve se rl ml sl g c f ol tl =
             runs = rl;
             measured = ml;
             states = sl;
-            flags = ap length g ∙ length-replicate {A = ℕ} most_hours 0;
+            flags = ap length g ∙ length-replicate {A = Bool} most_hours false;
             concentrations = ap length c ∙ length-replicate {A = ℕ} most_hours 0;
             flows = ap length f ∙ length-replicate {A = ℕ} most_hours 0;
           };
@@ -98,7 +98,7 @@ going_start file v s o d ve se rl ml sl g c f ol tl =
             conc_held_here = c;
             flow_held = f;
             used_most = omega (arith, se);
-            flags_past = λ h l. ap (λ (t : List ℕ). get_or t h 0) g ∙ replicate_zero most_hours h;
+            flags_past = λ h l. ap (λ (t : List Bool). get_or t h false) g ∙ replicate_zero false most_hours h;
             conc_past = λ h l. ap (λ (t : List ℕ). get_or t h 0) c ∙ cells-past [] 0 h (omega arith) (omega arith);
             flow_past = λ h l. ap (λ (t : List ℕ). get_or t h 0) f ∙ cells-past [] 0 h (omega arith) (omega arith);
           };

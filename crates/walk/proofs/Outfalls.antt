@@ -43,7 +43,7 @@ use Rattle.walk.proofs.Cleared.{cells-past}
 use Rattle.walk.proofs.Views.{survey-count}
 use Rattle.walk.proofs.Steps.{besides-most}
 use Rattle.walk.proofs.Filled.{hourly-length}
-use Rattle.walk.proofs.Standing.{open_is, long_as, head_cleared, head_long, adds_nothing, flag_bit}
+use Rattle.walk.proofs.Standing.{open_is, long_as, head_cleared, head_long, adds_nothing}
 use Rattle.walk.proofs.Ending.{row_same, done_more}
 use Rattle.walk.proofs.Daily.{begun_outfall-books, water_day-books, water_day-accepted, day_enforcement_books, day_enforcement_missing, day_plant_books, day_plant_missing, days_beaten_same, day_beaten_books, accepted_c, accepted_l, view_outfall, view_water_day, view_day_enforcement, view_day_plant, view_water_end, days_first, days_cells, days_weighed, days_long}
 
@@ -70,7 +70,7 @@ books_as : (x : OutfallLine) {s t : Sums} {o p : Open} → WaterBooks x s o → 
 books_as x k a b = rw (a, b) k
 
 -- ---- a head
-pub kept-outfall : (done : List Line) (v : View) (s : Sums) (h : Outfall) (o : Open) (d : Done) (flags' conc' flow' : List ℕ) (r : Taken)
+pub kept-outfall : (done : List Line) (v : View) (s : Sums) (h : Outfall) (o : Open) (d : Done) (flags' : List Bool) (conc' flow' : List ℕ) (r : Taken)
     → Kept (Between done) v s o d → h.days ≤ most_days → (1 ≤ h.pollutant) × (h.pollutant ≤ total_cells) → length done < most_lines
     → HeadTaken v s (as_head h) true o.flags o.concentrations o.flows flags' conc' flow' r
     → Kept (InWater (begun_outfall h) done) r.view r.sums (in_open o.runs o.measured o.states flags' conc' flow') d
@@ -135,7 +135,7 @@ module _ (x : OutfallLine) (done : List Line) (v : View) (s : Sums) (t : Survey)
         }
 
     -- a survey that stands, for the line y that has it
-    stands : (y : OutfallLine) (flags' states' conc' flow' : List ℕ) (w : Weighed) (r : Taken) → PutAt t found o.states o.concentrations o.flows states' conc' flow' w
+    stands : (y : OutfallLine) (flags' : List Bool) (states' conc' flow' : List ℕ) (w : Weighed) (r : Taken) → PutAt t found o.states o.concentrations o.flows states' conc' flow' w
         → r.sums ≡ with_survey s w → length flags' ≡ length o.flags → (w.found ≡ found → r.view ≡ view_of (InWater y done))
         → WaterBooks y (with_survey s (standing c l found)) (in_open o.runs o.measured (set o.states t.hour 2) flags' (set o.concentrations t.hour c) (set o.flows t.hour l))
         → Kept (InWater y done) r.view r.sums (in_open o.runs o.measured states' flags' conc' flow') d
@@ -148,25 +148,25 @@ module _ (x : OutfallLine) (done : List Line) (v : View) (s : Sums) (t : Survey)
         (books_as y books (es ∙ ap (with_survey s) ew) (open_is _ _ _ _ _ _ _ _ _ _ _ _ refl refl p.states_now refl ec el))
 
     -- masks and flags under the code's names
-    named : (y : OutfallLine) (k' : Marks) (flags' conc' flow' : List ℕ) (r : Taken) → k'.runs ≡ o.runs → k'.measured ≡ o.measured → k'.flags ≡ flags'
+    named : (y : OutfallLine) (k' : Marks) (flags' : List Bool) (conc' flow' : List ℕ) (r : Taken) → k'.runs ≡ o.runs → k'.measured ≡ o.measured → k'.flags ≡ flags'
         → Kept (InWater y done) r.view r.sums (in_open o.runs o.measured k'.states flags' conc' flow') d → Kept (InWater y done) r.view r.sums (open_in k' conc' flow') d
     named y k' flags' conc' flow' r p m q w =
         subst (λ (ms : List ℕ). Kept (InWater y done) r.view r.sums (in_open k'.runs ms k'.states k'.flags conc' flow') d) (sym m)
-        (subst₂ (λ (rs fs : List ℕ). Kept (InWater y done) r.view r.sums (in_open rs o.measured k'.states fs conc' flow') d) (sym p) (sym q) w)
+        (subst₂ (λ (rs : List ℕ) (fs : List Bool). Kept (InWater y done) r.view r.sums (in_open rs o.measured k'.states fs conc' flow') d) (sym p) (sym q) w)
 
     pub kept-day_enforcement : (k' : Marks) (conc' flow' : List ℕ) (r : Taken) → x.plant ≡ []
         → DaySurveyTaken Enforcement v s t (marks_of o) o.concentrations o.flows k' conc' flow' r
         → Kept (InWater (with_day_enforcement x t) done) r.view r.sums (open_in k' conc' flow') d
     kept-day_enforcement k' conc' flow' r none e =
-        named (with_day_enforcement x t) k' (set o.flags t.hour 1) conc' flow' r e.runs_stay e.measured_stay e.flags_now
-        (stands (with_day_enforcement x t) (set o.flags t.hour 1) k'.states conc' flow' e.weighed r (put_in false _ _ _ _ refl e.put) e.sums (length-set o.flags t.hour 1)
+        named (with_day_enforcement x t) k' (set o.flags t.hour true) conc' flow' r e.runs_stay e.measured_stay e.flags_now
+        (stands (with_day_enforcement x t) (set o.flags t.hour true) k'.states conc' flow' e.weighed r (put_in false _ _ _ _ refl e.put) e.sums (length-set o.flags t.hour true)
         (λ q.
         e.view ∙ ap₂ (λ (w : View) (n : ℕ). after_enforcement w t.hour n) k.view q
         ∙ view_day_enforcement x done t found (day_enforcement_missing x t k.books k.long all_days day none))
         (day_enforcement_books x t k.books k.long all_days day room ok none))
 
-    flag_is : get_or o.flags t.hour 0 ≡ flag_at x.enforcement t.hour
-    flag_is = ap (λ (fs : List ℕ). get_or fs t.hour 0) k.books.surveys.flagged ∙ table_at (flag_at x.enforcement) most_hours t.hour 0 (omega (arith, k.books.period))
+    flag_is : get_or o.flags t.hour false ≡ flag_at x.enforcement t.hour
+    flag_is = ap (λ (fs : List Bool). get_or fs t.hour false) k.books.surveys.flagged ∙ table_at (flag_at x.enforcement) most_hours t.hour false (omega (arith, k.books.period))
 
     module _ (k' : Marks) (conc' flow' : List ℕ) (r : Taken) (e : DaySurveyTaken Plant v s t (marks_of o) o.concentrations o.flows k' conc' flow' r) where
       abbrev states' : List ℕ
@@ -194,7 +194,7 @@ module _ (x : OutfallLine) (done : List Line) (v : View) (s : Sums) (t : Survey)
       unfolding flag_at
       kept-day_plant =
           named (with_day_plant x t) k' o.flags conc' flow' r e.runs_stay e.measured_stay e.flags_now
-          (plant_by (has_survey t.hour x.enforcement) refl (ap (λ (n : ℕ). eqb n 1) flag_is ∙ flag_bit (has_survey t.hour x.enforcement)))
+          (plant_by (has_survey t.hour x.enforcement) refl flag_is)
 
 -- ---- an end
 module _ (x : OutfallLine) (done : List Line) (v : View) (s : Sums) (o : Open) (d : Done) (k : Kept (InWater x done) v s o d) (all_days : length x.days ≡ x.head.days)

@@ -1,19 +1,17 @@
--- The sum of products hour by hour. Assumes nothing.
-use mathlib.Core.Path.{◌≡◌, ◌∙◌, sym, ap, ap₂}
-use mathlib.Core.List.{List}
-use Prim.Native.Nat.{ℕ, ◌+◌, ◌*◌, ◌<◌, ◌≤◌}
-use native.Mathlib.Numerals.{add-one}
-use lib.ListN.{length, get_or, drop, drop_of_length-le}
-use lib.Seq.{drop-cons}
+-- The sum of products as a chain has it. Assumes nothing.
+use Rattle.std.specs.Prelude.{fold, sum_by}
+use Rattle.std.specs.List.{zip}
+use mathlib.Core.Path.{◌≡◌, ◌∙◌}
+use mathlib.Core.List.{List, [], ◌∷◌}
+use Prim.Native.Nat.{ℕ, ◌+◌, ◌*◌}
+use native.Mathlib.Omega.{arith}
 use Rattle.fills.specs.Weights.{products}
 
-module _ (xs ys : List ℕ) (i : ℕ) where
-  -- one hour more, and none more
-  pub products-from : i < length xs → i < length ys → products (drop i xs) (drop i ys) ≡ get_or xs i 0 * get_or ys i 0 + products (drop (i + 1) xs) (drop (i + 1) ys)
-  unfolding products
-  products-from l m =
-      ap₂ products (drop-cons xs i 0 l) (drop-cons ys i 0 m) ∙ ap (λ (k : ℕ). get_or xs i 0 * get_or ys i 0 + products (drop k xs) (drop k ys)) (sym (add-one i))
+products-from : (a : ℕ) (cs ls : List ℕ) → fold (λ n (x : ℕ × ℕ). n + x.0 * x.1) a (zip cs ls) ≡ a + products cs ls
+unfolding products
+products-from a [] ls = omega arith
+products-from a (c ∷ cs) [] = omega arith
+products-from a (c ∷ cs) (l ∷ ls) = products-from (a + c * l) cs ls ∙ omega arith
 
-  pub products-done : length xs ≤ i → products (drop i xs) (drop i ys) ≡ 0
-  unfolding products
-  products-done l = ap (λ (s : List ℕ). products s (drop i ys)) (drop_of_length-le xs l)
+pub products-chain : (cs ls : List ℕ) → sum_by (λ (x : ℕ × ℕ). x.0 * x.1) (zip cs ls) ≡ products cs ls
+products-chain cs ls = products-from 0 cs ls ∙ omega arith

@@ -47,10 +47,10 @@ use Rattle.walk.proofs.Steps.{begun-books, day_books, enforcement_books, enforce
 books_as : (x : StackLine) {s t : Sums} {o p : Open} → LineBooks x s o → t ≡ s → p ≡ o → LineBooks x t p
 books_as x k a b = rw (a, b) k
 
-pub open_is : (a b c e f g a' b' c' e' f' g' : List ℕ) → a ≡ a' → b ≡ b' → c ≡ c' → e ≡ e' → f ≡ f' → g ≡ g' → in_open a b c e f g ≡ in_open a' b' c' e' f' g'
+pub open_is : (a b c : List ℕ) (e : List Bool) (f g a' b' c' : List ℕ) (e' : List Bool) (f' g' : List ℕ) → a ≡ a' → b ≡ b' → c ≡ c' → e ≡ e' → f ≡ f' → g ≡ g' → in_open a b c e f g ≡ in_open a' b' c' e' f' g'
 open_is a b c e f g a' b' c' e' f' g' p q r s t u = cc
 
-pub long_as : {o : Open} (a b c e f g : List ℕ) → Long o → length a ≡ length o.runs → length b ≡ length o.measured → length c ≡ length o.states → length e ≡ length o.flags
+pub long_as : {o : Open} (a b c : List ℕ) (e : List Bool) (f g : List ℕ) → Long o → length a ≡ length o.runs → length b ≡ length o.measured → length c ≡ length o.states → length e ≡ length o.flags
     → length f ≡ length o.concentrations → length g ≡ length o.flows → Long (in_open a b c e f g)
 long_as a b c e f g l p q r s t u =
     record {
@@ -66,24 +66,34 @@ long_as a b c e f g l p q r s t u =
 abbrev zeros : List ℕ
 zeros = table (λ i. 0) most_hours
 
+abbrev unflagged : List Bool
+unflagged = table (λ i. false) most_hours
+
 module _ {done : List Line} {v : View} {s : Sums} {o : Open} {d : Done} (k : Kept (Between done) v s o d) where
-  pub head_cleared : (h : Head) (water : Bool) (flags' conc' flow' : List ℕ) (r : Taken) → HeadTaken v s h water o.flags o.concentrations o.flows flags' conc' flow' r
-      → (flags' ≡ zeros) × (conc' ≡ zeros) × (flow' ≡ zeros)
+  pub head_cleared : (h : Head) (water : Bool) (flags' : List Bool) (conc' flow' : List ℕ) (r : Taken) → HeadTaken v s h water o.flags o.concentrations o.flows flags' conc' flow' r
+      → (flags' ≡ unflagged) × (conc' ≡ zeros) × (flow' ≡ zeros)
   head_cleared h water flags' conc' flow' r t =
       let b = k.books in
       let l = k.long in (
-        t.flags_now ∙ cleared_all o.flags s.used b.flags_past l.flags b.used_most,
-        t.conc_now ∙ cleared_all o.concentrations s.used b.conc_past l.concentrations b.used_most,
-        t.flow_now ∙ cleared_all o.flows s.used b.flow_past l.flows b.used_most,
+        t.flags_now ∙ cleared_all false o.flags s.used b.flags_past l.flags b.used_most,
+        t.conc_now ∙ cleared_all 0 o.concentrations s.used b.conc_past l.concentrations b.used_most,
+        t.flow_now ∙ cleared_all 0 o.flows s.used b.flow_past l.flows b.used_most,
       )
 
-  pub head_long : (flags' conc' flow' : List ℕ) → (flags' ≡ zeros) × (conc' ≡ zeros) × (flow' ≡ zeros) → Long (in_open o.runs o.measured o.states flags' conc' flow')
+  pub head_long : (flags' : List Bool) (conc' flow' : List ℕ) → (flags' ≡ unflagged) × (conc' ≡ zeros) × (flow' ≡ zeros) → Long (in_open o.runs o.measured o.states flags' conc' flow')
   head_long flags' conc' flow' z =
       let l = k.long in
       let n : length zeros ≡ most_hours = table_length (λ i. 0) most_hours in
-      record { runs = l.runs; measured = l.measured; states = l.states; flags = ap length z.0 ∙ n; concentrations = ap length z.1 ∙ n; flows = ap length z.2 ∙ n }
+      record {
+        runs = l.runs;
+        measured = l.measured;
+        states = l.states;
+        flags = ap length z.0 ∙ table_length (λ i. false) most_hours;
+        concentrations = ap length z.1 ∙ n;
+        flows = ap length z.2 ∙ n;
+      }
 
-pub kept-head : (done : List Line) (v : View) (s : Sums) (h : Head) (o : Open) (d : Done) (flags' conc' flow' : List ℕ) (r : Taken)
+pub kept-head : (done : List Line) (v : View) (s : Sums) (h : Head) (o : Open) (d : Done) (flags' : List Bool) (conc' flow' : List ℕ) (r : Taken)
     → Kept (Between done) v s o d → h.days ≤ most_days → (1 ≤ h.pollutant) × (h.pollutant ≤ total_cells) → length done < most_lines
     → HeadTaken v s h false o.flags o.concentrations o.flows flags' conc' flow' r → Kept (Inside (begun h) done) r.view r.sums (in_open o.runs o.measured o.states flags' conc' flow') d
 kept-head done v s h o d flags' conc' flow' r k days p room t =
@@ -175,11 +185,6 @@ adds_nothing s =
     let w : 0 + s.weight ≡ s.weight = omega arith in
     ap₂ (λ (i j : ℕ). record { surveyed = i; weight = j; sulphur = s.sulphur; ash = s.ash; used = s.used }) n w
 
-pub flag_bit : (b : Bool) → eqb (pick b 1 0) 1 ≡ b
-unfolding pick
-flag_bit true = refl
-flag_bit false = refl
-
 module _ (x : StackLine) (done : List Line) (v : View) (s : Sums) (t : Survey) (o : Open) (d : Done) (k : Kept (Inside x done) v s o d)
     (hour : t.hour < hours_of_day * x.head.days) (all_days : length x.days ≡ x.head.days) (room : surveys x < most_surveys) (ok : PairAccepted t.pair)
   where
@@ -200,15 +205,15 @@ module _ (x : StackLine) (done : List Line) (v : View) (s : Sums) (t : Survey) (
     tables = in_tables o.measured o.states o.concentrations o.flows
 
     -- the lists after it, and how long they are
-    abbrev after : List ℕ → Tables → Open
+    abbrev after : List Bool → Tables → Open
     after flags' o' = in_open o.runs o'.measured o'.states flags' o'.concentrations o'.flows
 
-    long_after : (flags' : List ℕ) → length flags' ≡ length o.flags → Long (after flags' (measured_at t.hour c l tables))
+    long_after : (flags' : List Bool) → length flags' ≡ length o.flags → Long (after flags' (measured_at t.hour c l tables))
     long_after flags' f =
         long_as _ _ _ _ _ _ k.long refl (length-set o.measured _ _) (length-set o.states t.hour 2) f (length-set o.concentrations t.hour c) (length-set o.flows t.hour l)
 
     -- a survey that stands: the view, the lists and the books, for the line y that has it
-    stands : (y : StackLine) (flags' : List ℕ) (o' : Tables) (w : Weighed) (r : Taken) → o' ≡ measured_at t.hour (survey_c t) (survey_l t) tables → w ≡ standing (survey_c t) (survey_l t) found
+    stands : (y : StackLine) (flags' : List Bool) (o' : Tables) (w : Weighed) (r : Taken) → o' ≡ measured_at t.hour (survey_c t) (survey_l t) tables → w ≡ standing (survey_c t) (survey_l t) found
         → r.sums ≡ with_survey s w → length flags' ≡ length o.flags → (w.found ≡ found → r.view ≡ view_of (Inside y done)) → LineBooks y (with_survey s (standing c l found)) (after flags' (measured_at t.hour c l tables))
         → Kept (Inside y done) r.view r.sums (after flags' o') d
     stands y flags' o' w r et ew es f ev books =
@@ -223,24 +228,24 @@ module _ (x : StackLine) (done : List Line) (v : View) (s : Sums) (t : Survey) (
       left = in_tables k'.measured k'.states conc' flow'
 
       -- masks and flags under the code's names
-      named : (y : StackLine) (r : Taken) (flags' : List ℕ) → k'.runs ≡ o.runs → k'.flags ≡ flags' → Kept (Inside y done) r.view r.sums (after flags' left) d
+      named : (y : StackLine) (r : Taken) (flags' : List Bool) → k'.runs ≡ o.runs → k'.flags ≡ flags' → Kept (Inside y done) r.view r.sums (after flags' left) d
           → Kept (Inside y done) r.view r.sums (open_in k' conc' flow') d
       named y r flags' p q w =
-          subst₂ (λ (rs fs : List ℕ). Kept (Inside y done) r.view r.sums (in_open rs k'.measured k'.states fs conc' flow') d) (sym p) (sym q) w
+          subst₂ (λ (rs : List ℕ) (fs : List Bool). Kept (Inside y done) r.view r.sums (in_open rs k'.measured k'.states fs conc' flow') d) (sym p) (sym q) w
 
       pub kept-enforcement : (r : Taken) → x.plant ≡ [] → SurveyTaken Enforcement v s t (marks_of o) o.concentrations o.flows k' conc' flow' r
           → Kept (Inside (with_enforcement x t) done) r.view r.sums (open_in k' conc' flow') d
       kept-enforcement r none e =
-          named (with_enforcement x t) r (set o.flags t.hour 1) e.runs_stay e.flags_now
-          (stands (with_enforcement x t) (set o.flags t.hour 1) left e.weighed r (e.put.tables ∙ sym (pick_false _ _ _ _ refl refl)) (e.put.weighs ∙ sym (pick_false _ _ _ _ refl refl)) e.sums (length-set o.flags t.hour 1)
+          named (with_enforcement x t) r (set o.flags t.hour true) e.runs_stay e.flags_now
+          (stands (with_enforcement x t) (set o.flags t.hour true) left e.weighed r (e.put.tables ∙ sym (pick_false _ _ _ _ refl refl)) (e.put.weighs ∙ sym (pick_false _ _ _ _ refl refl)) e.sums (length-set o.flags t.hour true)
           (λ q.
           e.view ∙ ap₂ (λ (w : View) (n : ℕ). after_enforcement w t.hour n) k.view q
           ∙ view_enforcement x done t found (enforcement_lacking x t k.books k.long all_days hour room (most_c t ok) (most_l t ok) found none))
           (enforcement_books x t k.books k.long all_days hour room (most_c t ok) (most_l t ok) found none))
 
     -- a flag is 1 where an enforcement survey stands
-    flag_is : get_or o.flags t.hour 0 ≡ flag_at x.enforcement t.hour
-    flag_is = ap (λ (l : List ℕ). get_or l t.hour 0) k.books.surveys.flagged ∙ table_at (flag_at x.enforcement) most_hours t.hour 0 (omega (arith, k.books.period))
+    flag_is : get_or o.flags t.hour false ≡ flag_at x.enforcement t.hour
+    flag_is = ap (λ (l : List Bool). get_or l t.hour false) k.books.surveys.flagged ∙ table_at (flag_at x.enforcement) most_hours t.hour false (omega (arith, k.books.period))
 
     module _ (k' : Marks) (conc' flow' : List ℕ) (r : Taken) (e : SurveyTaken Plant v s t (marks_of o) o.concentrations o.flows k' conc' flow' r) where
       abbrev o' : Tables
@@ -266,7 +271,7 @@ module _ (x : StackLine) (done : List Line) (v : View) (s : Sums) (t : Survey) (
       unfolding flag_at
       kept-plant =
           named k' conc' flow' (with_plant x t) r o.flags e.runs_stay e.flags_now
-          (plant_by (has_survey t.hour x.enforcement) refl (ap (λ (n : ℕ). eqb n 1) flag_is ∙ flag_bit (has_survey t.hour x.enforcement)))
+          (plant_by (has_survey t.hour x.enforcement) refl flag_is)
 
 -- ---- a batch
 pub kept-batch : (x : StackLine) (done : List Line) (v : View) (s : Sums) (b : Batch) (o : Open) (d : Done) (r : Taken)

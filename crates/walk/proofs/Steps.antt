@@ -43,14 +43,14 @@ begun-cells h f most z =
     record { hold = table_same (λ k. 0) (λ k. f (values_at (hours (begun h)) k)) most_hours (λ k m. sym (none k)); within = λ k. omega (arith, none k) }
 
 pub begun-books : (h : Head) (runs measured states : List ℕ) → h.days ≤ most_days → (1 ≤ h.pollutant) × (h.pollutant ≤ total_cells)
-    → LineBooks (begun h) (opened_sums h false) (in_open runs measured states (table (λ k. 0) most_hours) (table (λ k. 0) most_hours) (table (λ k. 0) most_hours))
+    → LineBooks (begun h) (opened_sums h false) (in_open runs measured states (table (λ k. false) most_hours) (table (λ k. 0) most_hours) (table (λ k. 0) most_hours))
 unfolding begun table run_masks measured_masks surveys surveyed besides days_after put_surveys sulphur_of ash_of sum_of largest flag_at has_survey pick zeroes
 begun-books h runs measured states l p =
     record {
       masks = record { runs_kept = refl; measured_kept = refl; states_kept_here = refl };
       concentrations = begun-cells h (λ v. v.c) most_concentration refl;
       flows = begun-cells h (λ v. v.l) most_flow refl;
-      surveys = record { flagged = refl; past = λ k m. table_zero most_hours k; counted = refl; weighed = refl; most = omega arith };
+      surveys = record { flagged = refl; past = λ k m. table_zero false most_hours k; counted = refl; weighed = refl; most = omega arith };
       fuel = record { largest = refl; summed = refl; range = in_range_none };
       used = refl;
       pollutant = p;
@@ -226,7 +226,7 @@ module _ (x : StackLine) (es ps : List Survey) (s : Survey) where
           }
 
       -- one survey more, by its count and its amount
-      stood_surveys : (flags' : List ℕ) → flags' ≡ table (flag_at es) most_hours → ((h : ℕ) → hours_of_day * x.head.days ≤ h → get_or flags' h 0 ≡ 0)
+      stood_surveys : (flags' : List Bool) → flags' ≡ table (flag_at es) most_hours → ((h : ℕ) → hours_of_day * x.head.days ≤ h → get_or flags' h false ≡ false)
           → (values_of s.pair).c ≤ most_concentration → (values_of s.pair).l ≤ most_flow
           → SurveysKept (hours_of_day * x.head.days) es (surveyed y) (t.surveyed + 1) ((values_of s.pair).c * (values_of s.pair).l + t.weight) flags'
       unfolding sum_of amount survey_values
@@ -240,7 +240,7 @@ module _ (x : StackLine) (es ps : List Survey) (s : Survey) where
             most = subst (λ (l : List Survey). sum_of (λ u. amount (survey_values u)) l ≤ length l * most_amount) (sym more) (omega (arith, y.most, mul-le-mul cm lm));
           }
 
-      pub stood_books : (flags' : List ℕ) (found : ℕ) → flags' ≡ table (flag_at es) most_hours → ((h : ℕ) → hours_of_day * x.head.days ≤ h → get_or flags' h 0 ≡ 0)
+      pub stood_books : (flags' : List Bool) (found : ℕ) → flags' ≡ table (flag_at es) most_hours → ((h : ℕ) → hours_of_day * x.head.days ≤ h → get_or flags' h false ≡ false)
           → length es + length ps ≤ most_surveys → (values_of s.pair).c ≤ most_concentration → (values_of s.pair).l ≤ most_flow
           → LineBooks y (with_survey t (standing (values_of s.pair).c (values_of s.pair).l found))
           (in_open o.runs (with_measured s.hour o.measured) (set o.states s.hour 2) flags' (set o.concentrations s.hour (values_of s.pair).c) (set o.flows s.hour (values_of s.pair).l))
@@ -263,27 +263,27 @@ module _ (x : StackLine) (s : Survey) where
   unfolding flag_at has_survey
   e_flag h n = rw (ne_eqb h s.hour n)
 
-  e_flag_own : flag_at (s ∷ x.enforcement) s.hour ≡ 1
+  e_flag_own : flag_at (s ∷ x.enforcement) s.hour ≡ true
   unfolding flag_at has_survey pick
   e_flag_own = rw (eq-eqb s.hour s.hour refl)
 
   module _ {t : Sums} {o : Open} (k : LineBooks x t o) (long : Long o) (all_days : length x.days ≡ x.head.days) (hour : s.hour < hours_of_day * x.head.days) (room : surveys x < most_surveys)
       (cm : (values_of s.pair).c ≤ most_concentration) (lm : (values_of s.pair).l ≤ most_flow) (found : ℕ)
     where
-      abbrev marked : List ℕ → Open
+      abbrev marked : List Bool → Open
       marked flags' =
           in_open o.runs (with_measured s.hour o.measured) (set o.states s.hour 2) flags' (set o.concentrations s.hour (values_of s.pair).c) (set o.flows s.hour (values_of s.pair).l)
 
       abbrev counted : Sums
       counted = with_survey t (standing (values_of s.pair).c (values_of s.pair).l found)
 
-      pub enforcement_books : x.plant ≡ [] → LineBooks (with_enforcement x s) counted (marked (set o.flags s.hour 1))
+      pub enforcement_books : x.plant ≡ [] → LineBooks (with_enforcement x s) counted (marked (set o.flags s.hour true))
       unfolding with_enforcement surveys
       enforcement_books none =
-          stood_books x (s ∷ x.enforcement) x.plant s (enforced x s none) k long all_days hour (set o.flags s.hour 1) found
-          (ap (λ (l : List ℕ). set l s.hour 1) k.surveys.flagged
-          ∙ table_set (flag_at x.enforcement) (flag_at (s ∷ x.enforcement)) most_hours s.hour 1 0 (omega (arith, k.period)) e_flag_own (λ h l n. e_flag h n))
-          (λ h m. get_or-set_other o.flags s.hour h 1 0 (λ q. absurd (omega (arith, q, m, hour))) ∙ k.surveys.past h m)
+          stood_books x (s ∷ x.enforcement) x.plant s (enforced x s none) k long all_days hour (set o.flags s.hour true) found
+          (ap (λ (l : List Bool). set l s.hour true) k.surveys.flagged
+          ∙ table_set (flag_at x.enforcement) (flag_at (s ∷ x.enforcement)) most_hours s.hour true false (omega (arith, k.period)) e_flag_own (λ h l n. e_flag h n))
+          (λ h m. get_or-set_other o.flags s.hour h true false (λ q. absurd (omega (arith, q, m, hour))) ∙ k.surveys.past h m)
           (omega arith) cm lm
 
       pub enforcement_lacking : x.plant ≡ [] → lacking (days_after (with_enforcement x s)) ≡ lacking (days_after x) - found_by s.hour o.runs o.measured

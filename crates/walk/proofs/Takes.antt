@@ -157,7 +157,7 @@ module _ (bytes : List ℕ) (v : View) (s : Sums) (o : Open) (d : Done) where
       (λ a. Kept a v s o d → (s.used ≤ most_hours) × (length o.concentrations ≡ most_hours) × (length o.flows ≡ most_hours))
       (λ done y. (y.books.used_most, y.long.concentrations, y.long.flows)) k.kept
 
-  pub took_head : (stand : Stand) (r : Record) (h : Head) (flags' conc' flow' : List ℕ) (t : Taken) → r ≡ OfHead h → Ready stand bytes r v s o d
+  pub took_head : (stand : Stand) (r : Record) (h : Head) (flags' : List Bool) (conc' flow' : List ℕ) (t : Taken) → r ≡ OfHead h → Ready stand bytes r v s o d
       → HeadTaken v s h false o.flags o.concentrations o.flows flags' conc' flow' t → Took stand bytes r (Ok t) (in_open o.runs o.measured o.states flags' conc' flow') d
   unfolding taken taken_between judge_readings
   took_head stand r h flags' conc' flow' t q k e =
@@ -181,7 +181,7 @@ module _ (bytes : List ℕ) (v : View) (s : Sums) (o : Open) (d : Done) where
       rw q (record {
         faults = e.faults;
         stays = λ u w.
-            subst (λ (fs : List ℕ). Kept (taken stand bytes (OfDay m)) u.view u.sums (in_open k'.runs k'.measured k'.states fs conc' flow') d) (sym e.flags_stay)
+            subst (λ (fs : List Bool). Kept (taken stand bytes (OfDay m)) u.view u.sums (in_open k'.runs k'.measured k'.states fs conc' flow') d) (sym e.flags_stay)
             (in_line stand v k.kept.view ok.inside (λ a. Kept a v s o d → Kept (taken a bytes (OfDay m)) u.view u.sums (in_open k'.runs k'.measured k'.states o.flags conc' flow') d)
             (λ x done y.
             let f = day_facts x done m y.view ok.room ok.turn in
@@ -450,7 +450,7 @@ module _ (bytes : List ℕ) (v : View) (s : Sums) (o : Open) (d : Done) where
       (λ a. Kept a v s o d → (s.used ≤ most_hours) × (length o.concentrations ≡ most_hours) × (length o.flows ≡ most_hours))
       (λ done y. (y.books.used_most, y.long.concentrations, y.long.flows)) k.kept
 
-  pub took_outfall : (stand : Stand) (r : Record) (h : Outfall) (g : Head) (flags' conc' flow' : List ℕ) (u : Taken) → r ≡ OfOutfallHead h → g ≡ as_head h → Ready stand bytes r v s o d
+  pub took_outfall : (stand : Stand) (r : Record) (h : Outfall) (g : Head) (flags' : List Bool) (conc' flow' : List ℕ) (u : Taken) → r ≡ OfOutfallHead h → g ≡ as_head h → Ready stand bytes r v s o d
       → HeadTaken v s g true o.flags o.concentrations o.flows flags' conc' flow' u → Took stand bytes r (Ok u) (in_open o.runs o.measured o.states flags' conc' flow') d
   unfolding taken taken_between judge_readings
   took_outfall stand r h g flags' conc' flow' u q p k e =

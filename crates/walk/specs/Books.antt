@@ -1,7 +1,7 @@
 -- The books: how the code's state stands for the lines that the walk has taken in.
-use Rattle.std.specs.Prelude.{ℕ, ◌+◌, ◌*◌, ◌≤◌, ◌<◌, List, [], ◌++◌, ◌≡◌, length, take, drop, get_or, replicate}
+use Rattle.std.specs.Prelude.{ℕ, Bool, false, ◌+◌, ◌*◌, ◌≤◌, ◌<◌, List, [], ◌++◌, ◌≡◌, length, take, drop, get_or, replicate}
 use Rattle.law.specs.Numbers.{hours_of_day, most_days, most_hours, most_lines, row_cells, most_cells, total_cells, most_surveys, most_concentration, most_flow, most_amount, most_grams}
-use Rattle.law.specs.Words.{pick, sum_of, table, over}
+use Rattle.law.specs.Words.{sum_of, table, over}
 use Rattle.rules.specs.declared.Pair.{Pair}
 use Rattle.rules.specs.declared.Survey.{Survey}
 use Rattle.rules.specs.declared.Batch.{Batch}
@@ -34,11 +34,11 @@ pub record Open : Type 0 where
   pub runs : List ℕ
   pub measured : List ℕ
   pub states : List ℕ
-  pub flags : List ℕ
+  pub flags : List Bool
   pub concentrations : List ℕ
   pub flows : List ℕ
 
-abbrev pub in_open : List ℕ → List ℕ → List ℕ → List ℕ → List ℕ → List ℕ → Open
+abbrev pub in_open : List ℕ → List ℕ → List ℕ → List Bool → List ℕ → List ℕ → Open
 in_open runs measured states flags concentrations flows =
     record { runs = runs; measured = measured; states = states; flags = flags; concentrations = concentrations; flows = flows }
 
@@ -59,9 +59,9 @@ in_cell stopped = zeroes
 unfoldable pub values_at : List (Slot Pair) → ℕ → Values
 values_at slots h = in_cell (get_or slots h stopped)
 
--- 1 where an hour has an enforcement survey
-unfoldable pub flag_at : List Survey → ℕ → ℕ
-flag_at enforcement h = pick (has_survey h enforcement) 1 0
+-- whether an hour has an enforcement survey
+unfoldable pub flag_at : List Survey → ℕ → Bool
+flag_at enforcement h = has_survey h enforcement
 
 -- the masks of the days so far, a surveyed hour's measured bit set, and the states of their hours
 pub record MasksKept (x : StackLine) (runs measured states : List ℕ) : Type 0 where
@@ -75,9 +75,9 @@ pub record CellsKept (value : ℕ → ℕ) (most : ℕ) (cells : List ℕ) : Typ
   pub within : (h : ℕ) → value h ≤ most
 
 -- the surveys so far: a flag for each of the enforcement, and n and the sum of c x l of the distinct ones
-pub record SurveysKept (period : ℕ) (enforcement distinct : List Survey) (count weight : ℕ) (flags : List ℕ) : Type 0 where
+pub record SurveysKept (period : ℕ) (enforcement distinct : List Survey) (count weight : ℕ) (flags : List Bool) : Type 0 where
   pub flagged : flags ≡ table (flag_at enforcement) most_hours
-  pub past : (h : ℕ) → period ≤ h → get_or flags h 0 ≡ 0
+  pub past : (h : ℕ) → period ≤ h → get_or flags h false ≡ false
   pub counted : count ≡ length distinct
   pub weighed : weight ≡ sum_of (λ s. amount (survey_values s)) distinct
   pub most : sum_of (λ s. amount (survey_values s)) distinct ≤ length distinct * most_amount
@@ -127,7 +127,7 @@ pub record CellsBetween (lines : List Line) (used : ℕ) (o : Open) : Type 0 whe
   pub conc_held_here : o.concentrations ≡ concentration_cells lines
   pub flow_held : o.flows ≡ flow_cells lines
   pub used_most : used ≤ most_hours
-  pub flags_past : (h : ℕ) → used ≤ h → get_or o.flags h 0 ≡ 0
+  pub flags_past : (h : ℕ) → used ≤ h → get_or o.flags h false ≡ false
   pub conc_past : (h : ℕ) → used ≤ h → get_or o.concentrations h 0 ≡ 0
   pub flow_past : (h : ℕ) → used ≤ h → get_or o.flows h 0 ≡ 0
 

@@ -1,7 +1,6 @@
 -- What the functions that take a record in promise each other.
-use Rattle.std.specs.Prelude.{ℕ, ◌+◌, ◌*◌, ◌<◌, ◌≤◌, Bool, true, false, List, ◌≡◌, length, take, get_or, set, Result, Ok}
+use Rattle.std.specs.Prelude.{ℕ, ◌+◌, ◌*◌, ◌<◌, ◌≤◌, Bool, true, false, List, ◌≡◌, length, take, drop, replicate, ◌++◌, get_or, set, Result, Ok}
 use Rattle.law.specs.Numbers.{hours_of_day, most_days, most_hours, most_lines, row_cells, total_cells, most_surveys, most_amount, most_grams}
-use Rattle.law.specs.Words.{over}
 use Rattle.rules.specs.declared.Head.{Head}
 use Rattle.rules.specs.declared.Masks.{Masks}
 use Rattle.rules.specs.declared.Survey.{Survey}
@@ -50,13 +49,13 @@ pub record SurveyReady (t : Survey) (count found : ℕ) (v : View) (s : Sums) : 
   pub surveyed : s.surveyed < most_surveys
   pub weight : s.weight ≤ most_surveys * most_amount
 
--- a head: cells and flags are 0
-pub record HeadTaken (v : View) (s : Sums) (h : Head) (water : Bool) (flags conc flow flags' conc' flow' : List ℕ) (r : Taken) : Type 0 where
+-- a head: the cells that the last line used are 0, and none of its flags stands
+pub record HeadTaken (v : View) (s : Sums) (h : Head) (water : Bool) (flags : List Bool) (conc flow : List ℕ) (flags' : List Bool) (conc' flow' : List ℕ) (r : Taken) : Type 0 where
   pub view : r.view ≡ after_head v h water
   pub sums : r.sums ≡ opened_sums h water
-  pub flags_now : flags' ≡ over (λ k. 0) s.used flags
-  pub conc_now : conc' ≡ over (λ k. 0) s.used conc
-  pub flow_now : flow' ≡ over (λ k. 0) s.used flow
+  pub flags_now : flags' ≡ replicate s.used false ++ drop s.used flags
+  pub conc_now : conc' ≡ replicate s.used 0 ++ drop s.used conc
+  pub flow_now : flow' ≡ replicate s.used 0 ++ drop s.used flow
 
 -- a day: its masks, its 24 states and its 24 values
 pub record DayTaken (bytes : List ℕ) (v : View) (s : Sums) (m : Masks) (runs measured states conc flow runs' measured' states' conc' flow' : List ℕ) (r : Taken) : Type 0 where

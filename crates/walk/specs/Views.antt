@@ -1,5 +1,5 @@
 -- The view and the sums after each kind of record that is not refused.
-use Rattle.std.specs.Prelude.{ℕ, ◌+◌, ◌-◌, ◌*◌, max, Bool, false, not, List, get_or, set, eqb}
+use Rattle.std.specs.Prelude.{ℕ, ◌+◌, ◌-◌, ◌*◌, max, Bool, true, false, not, List, get_or, set, eqb}
 use Rattle.law.specs.Numbers.{hours_of_day}
 use Rattle.law.specs.Words.{pick}
 use Rattle.rules.specs.declared.Head.{Head}
@@ -95,16 +95,16 @@ after_survey Enforcement v hour found = after_enforcement v hour found
 after_survey Plant v hour found = after_plant v hour found
 
 -- whether an hour or a day has an enforcement survey, by the flags of a quarter's hours
-abbrev pub beats : List ℕ → ℕ → Bool
-beats flags h = eqb (get_or flags h 0) 1
+abbrev pub beats : List Bool → ℕ → Bool
+beats flags h = get_or flags h false
 
 -- whether a survey is beaten there, and the flags after it
-abbrev pub beaten_by : By → List ℕ → ℕ → Bool
+abbrev pub beaten_by : By → List Bool → ℕ → Bool
 beaten_by Enforcement flags h = false
 beaten_by Plant flags h = beats flags h
 
-abbrev pub flags_by : By → List ℕ → ℕ → List ℕ
-flags_by Enforcement flags h = set flags h 1
+abbrev pub flags_by : By → List Bool → ℕ → List Bool
+flags_by Enforcement flags h = set flags h true
 flags_by Plant flags h = flags
 
 abbrev pub after_batch : View → ℕ → View

@@ -1,8 +1,8 @@
 // The end of a line: its gaps filled and weighed, its grams.
-ghost use Rattle.std.specs.Prelude.{◌≡◌, ℕ, ◌+◌, ◌*◌, ◌^◌, ◌<◌, ◌≤◌, length, get_or};
+ghost use Rattle.std.specs.Prelude.{◌≡◌, ℕ, ◌+◌, ◌*◌, ◌^◌, ◌<◌, ◌≤◌, length, get_or, sum_by};
 ghost use Rattle.law.specs.Numbers.{most_hours, most_lines, total_cells, most_surveys, most_amount, per_gram, most_grams};
 ghost use Rattle.law.specs.Words.{halves_up};
-ghost use Rattle.fills.specs.Weights.{products};
+ghost use Rattle.std.specs.List.{zip};
 ghost use Rattle.fuel.specs.Fuel.{fuel_on_paper};
 ghost use Rattle.walk.specs.Closing.{grams_in, period_weight, DailyReady, daily_grams, GramsReady, line_grams, with_grams};
 
@@ -17,25 +17,15 @@ fn grams_in(f: Result<u64, NoFigure>) -> u64
     f.unwrap_or(0)
 }
 
-// c x l of an hour or a day.
-fn product(c: u32, l: u32) -> u64
-    ensures { result ≡ c * l }
-{
-    (c as u64) * (l as u64)
-}
-
 // The sum of c x l. It is known to fit, so that no turn tests it.
 fn weigh(conc: &[u32], flow: &[u32]) -> u64
-    requires { (length flow.now ≡ length conc.now) × (products conc.now flow.now < 2 ^ 64) }
-    ensures { result ≡ products conc.now flow.now }
+    requires { sum_by (λ (p : ℕ × ℕ). p.0 * p.1) (zip conc.now flow.now) < 2 ^ 64 }
+    ensures { result ≡ sum_by (λ (p : ℕ × ℕ). p.0 * p.1) (zip conc.now flow.now) }
 {
-    let mut sum: u64 = 0;
-    let mut i: usize = 0;
-    while i < conc.len() {
-        sum += product(conc[i], flow[i]);
-        i += 1;
-    }
-    sum
+    conc.iter()
+        .zip(flow)
+        .map(|(c, l)| u64::from(*c) * u64::from(*l))
+        .sum()
 }
 
 // The sum of c x l over the n hours or days of the period.
@@ -43,7 +33,7 @@ fn period_weight(conc: &[u32], flow: &[u32], n: usize) -> u64
     requires { (n ≤ length conc.now) × (n ≤ length flow.now) × (period_weight n conc.now flow.now < 2 ^ 64) }
     ensures { result ≡ period_weight n conc.now flow.now }
 {
-    weigh(&conc[0..n], &flow[0..n])
+    weigh(&conc[..n], &flow[..n])
 }
 
 // Half of what a gram is in units of c x l: of a stack 100,000, of an outfall 100.

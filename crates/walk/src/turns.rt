@@ -57,7 +57,7 @@ pub fn walk_records(file: &[u8], conc: &mut [u32], flow: &mut [u32]) -> Result<W
         runs: [0; 92],
         measured: [0; 92],
         states: [0; 2208],
-        flags: [0; 2208],
+        flags: [false; 2208],
     };
     let mut done = Done {
         rows: [0; 336],

@@ -1,16 +1,16 @@
 -- `walk::close::period_weight` meets its contract. Assumes nothing.
 use mathlib.Core.Path.{◌∙◌}
 use native.Mathlib.Omega.{arith}
-use lib.ListN.{length-take}
-use Rattle.walk.proofs.Closed.{parts_weigh}
+use lib.ListN.{take}
+use Rattle.walk.proofs.Products.{products-chain}
 use Rattle.walk.proofs.close.period_weight.Goals as goal
 
 pub weigh-requires : goal.weigh-requires
 weigh-requires c =
-    let e = parts_weigh c.args.conc.now c.args.flow.now c.args.n in
-    (simp length-take (omega arith), omega (arith, e, c.requires.2))
+    let a = c.args in
+    omega (arith, products-chain (take a.n a.conc.now) (take a.n a.flow.now), c.requires.2)
 
 pub returns : goal.returns
 returns c =
     let a = c.args in
-    c.weigh.ensures ∙ parts_weigh a.conc.now a.flow.now a.n
+    c.weigh.ensures ∙ products-chain (take a.n a.conc.now) (take a.n a.flow.now)
