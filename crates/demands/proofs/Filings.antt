@@ -22,18 +22,43 @@ use Rattle.rules.specs.Walk.{Outcome, Refused, Accepted, outcome}
 use Rattle.answers.proofs.Answers.{stated}
 use Rattle.answers.proofs.Rows.{rows_long, row-of}
 use Rattle.answers.proofs.Never.{Ungiven, outcome-never, ungiven_8, ungiven_9}
-use Rattle.filed.specs.declared.Verdict.{Verdict}
-use Rattle.filed.specs.declared.Verdict.TheVariants.{Agrees, Wrong, Refused as Unchecked}
+use Rattle.rules.specs.declared.Refused.{Refused as Fails}
+use Rattle.filed.specs.declared.Verdict.{Verdict as Found}
+use Rattle.filed.specs.declared.Verdict.TheVariants.{Agrees as Alike, Wrong as Unlike}
 use Rattle.filed.specs.Filed.{verdict_on_paper, refused_with, compared, against_lines, against, checked}
 use Rattle.filed.specs.Parts.{FirstWrong}
 use Rattle.filed.proofs.Compared.{compared-wrong, compared-yes, first-exists}
-use Rattle.filed.proofs.Only.{check_only}
 use Rattle.demands.specs.Demands.{Call, Result, Kept}
-use Rattle.demands.specs.Filings.{Filing, Meets, Right, FirstDiffers, RefusedBy, Checks}
+use Rattle.std.proofs.Common.{Result, Ok, Err}
+use Rattle.demands.specs.Filings.{Filing, Verdict, Agrees, Wrong, Unchecked, on_paper, spoken, Meets, Right, FirstDiffers, RefusedBy, Checks}
 
 pub totals_long : (lines : List Line) → length (totals_of lines) ≡ total_cells
 unfolding totals_of
 totals_long lines = table_length (λ i. total_of (i + 1) lines) total_cells
+
+-- ---- what stands on paper tells apart what may be said
+long : {p q : OnPaper} → p ≡ q → length p.values ≡ length q.values
+long e = ap (λ (x : OnPaper). length x.values) e
+
+pub said_only : (v w : Verdict) → on_paper v ≡ on_paper w → v ≡ w
+unfolding on_paper
+said_only Agrees Agrees e = refl
+said_only Agrees (Wrong r f) e = absurd (omega (arith, long e))
+said_only Agrees (Unchecked f) e = absurd (omega (arith, long e))
+said_only (Wrong r f) Agrees e = absurd (omega (arith, long e))
+said_only (Wrong r f) (Wrong s g) e = let q = ap (λ (x : OnPaper). x.values) e in cc
+said_only (Wrong r f) (Unchecked g) e = absurd (omega (arith, long e))
+said_only (Unchecked f) Agrees e = absurd (omega (arith, long e))
+said_only (Unchecked f) (Wrong s g) e = absurd (omega (arith, long e))
+said_only (Unchecked f) (Unchecked g) e =
+    let place = ap (λ (x : OnPaper). get_or x.values 0 0) e in
+    ap₂ (λ (n p : ℕ). Unchecked (record { number = n; place = p })) (ap (λ (x : OnPaper). x.number) e) place
+
+by_code : (v : Result Found Fails) → verdict_on_paper v ≡ on_paper (spoken v)
+unfolding verdict_on_paper on_paper spoken
+by_code (Ok Alike) = refl
+by_code (Ok (Unlike row field)) = refl
+by_code (Err f) = refl
 
 -- ---- what is said of a filing, by what is so of it
 module _ (x : Filing) where
@@ -86,8 +111,8 @@ module _ (x : Filing) where
   many e = ap (λ (y : OnPaper). length y.values) e
 
   -- ---- some answer
-  answer_by : (p : OnPaper) → Case p → (v : Verdict) × (verdict_on_paper v ≡ p)
-  unfolding verdict_on_paper
+  answer_by : (p : OnPaper) → Case p → (v : Verdict) × (on_paper v ≡ p)
+  unfolding on_paper
   answer_by p (own f o e) = (Unchecked f, sym e)
   answer_by p (miscounted lines o n e) = (Unchecked (refuse 22 0), sym e)
   answer_by p (differing k c l e) = (Wrong (k / row_cells) (k % row_cells), sym e)
@@ -96,7 +121,7 @@ module _ (x : Filing) where
   one_answer : (v : Verdict) × Meets x v × ((w : Verdict) → Meets x w → w ≡ v)
   one_answer =
       let v = answer_by _ (case_of _ refl) in
-      (v.0, v.1, λ w m. check_only x.file x.rows x.totals w v.0 m v.1)
+      (v.0, v.1, λ w m. said_only w v.0 (m ∙ sym v.1))
 
   module _ (five : length x.totals ≡ total_cells) where
     -- ---- yes
@@ -119,7 +144,7 @@ module _ (x : Filing) where
     right_by p s (agreeing k c l e) = let q = split c.lines c.count (all_alike k c l) in record { lines = c.lines; accepted = c.accepted; rows_are = q.0; totals_are = q.1 }
 
     pub yes_if : Right x → Meets x Agrees
-    unfolding verdict_on_paper checked against against_lines need
+    unfolding on_paper checked against against_lines need
     yes_if r =
         let l = r.lines in
         let n : eqb (length x.rows) (row_cells * length l) ≡ true = eq-eqb _ _ (ap length r.rows_are ∙ rows_long l) in
@@ -129,7 +154,7 @@ module _ (x : Filing) where
         sym (compared-yes _ _ _ w (omega arith)) ∙ (rw (r.accepted, n))
 
     yes_right : Meets x Agrees ↔ Right x
-    unfolding verdict_on_paper
+    unfolding on_paper
     yes_right = ((λ m. right_by _ refl (case_of _ m)), yes_if)
 
     -- ---- wrong
@@ -177,7 +202,7 @@ module _ (x : Filing) where
     differs_by p row field s (agreeing k c l e) = absurd (omega (arith, many (sym s ∙ e)))
 
     wrong_first : (row field : ℕ) → Meets x (Wrong row field) → FirstDiffers x row field
-    unfolding verdict_on_paper
+    unfolding on_paper
     wrong_first row field m = differs_by _ row field refl (case_of _ m)
 
     -- ---- refused
@@ -192,7 +217,7 @@ module _ (x : Filing) where
     refused_by p f s (agreeing k c l e) = absurd (omega (arith, many (sym s ∙ e)))
 
     refused_for : (f : Fault) → Meets x (Unchecked f) → RefusedBy x f
-    unfolding verdict_on_paper
+    unfolding on_paper
     refused_for f m = refused_by _ f refl (case_of _ m)
 
     -- not with a number that no record gives, unless it is 22
@@ -205,7 +230,7 @@ module _ (x : Filing) where
     never_for f m = let r = refused_for f m in (never_by 8 ungiven_8 (λ z. omega (arith, z)) f r, never_by 9 ungiven_9 (λ z. omega (arith, z)) f r)
 
     pub checks : Checks x
-    checks = record { one = one_answer; yes = yes_right; wrong = wrong_first; refused = refused_for; never = never_for }
+    checks = record { one = one_answer; yes = yes_right; wrong = wrong_first; refused = refused_for; never = never_for; code = by_code }
 
 -- ---- what the account call states is a filing that agrees
 pub stated-agrees : (c : Call) (r : Result) → Kept c r → r.answer.number ≡ 0

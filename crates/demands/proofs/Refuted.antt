@@ -16,10 +16,9 @@ use Rattle.allowance.specs.Exact.{exact_fill, exact_automatic}
 use Rattle.allowance.specs.Allowance.{in_air, automatic_allowance}
 use Rattle.allowance.specs.Opened.{allowances}
 use Rattle.demands.specs.Example.{example}
-use Rattle.filed.specs.declared.Verdict.TheVariants.{Agrees, Wrong}
 use Rattle.filed.specs.Opened.{checks}
-use Rattle.filed.proofs.Only.{check_only}
-use Rattle.demands.specs.Filings.{Filing, Meets}
+use Rattle.demands.proofs.Filings.{said_only}
+use Rattle.demands.specs.Filings.{Filing, Agrees, Wrong, on_paper, Meets}
 use Rattle.demands.specs.Demands.{Version, Keeps, Taken, Call, Lent, RefusesAll, EveryRowNear}
 use Rattle.demands.proofs.Falsity.{differ}
 use Rattle.demands.proofs.Files.{second, two, call_of, lent_all, given_all}
@@ -113,7 +112,7 @@ record WrongTotal : Type 0 where
   right : get_or (rows_of [] ++ totals_of []) 0 0 ≡ 0
 
 wrong_total : WrongTotal
-unfolding checks
+unfolding checks on_paper
 wrong_total = record { accepted = refl; none = refl; named = refl; right = refl }
 
 -- the named cell claimed to be right too
@@ -124,6 +123,6 @@ not_also_right h = let e = h wrong_total_lem 0 0 wrong_total.named [] wrong_tota
 -- yes claimed of any totals
 not_any_totals : ((x : Filing) (lines : List Line) → outcome x.file ≡ Accepted lines → x.rows ≡ rows_of lines → Meets x Agrees) → ⊥
 not_any_totals h =
-    let e = check_only [] [] wrong_total_lem.totals Agrees (Wrong 0 0) (h wrong_total_lem [] wrong_total.accepted (sym wrong_total.none)) wrong_total.named in
+    let e = said_only Agrees (Wrong 0 0) (h wrong_total_lem [] wrong_total.accepted (sym wrong_total.none) ∙ sym wrong_total.named) in
     let z : ◌≡◌ {A = ℕ} 0 1 = cc in
     omega (arith, z)

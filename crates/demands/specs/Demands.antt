@@ -18,9 +18,8 @@ use Rattle.import.specs.Nearest.{Nearest}
 use Rattle.import.specs.Grammar.{FormedAs}
 use Rattle.filed.proofs.check_filed.Statement.{statement as checkMeets}
 use Rattle.filed.proofs.filed_text.Statement.{statement as filedTextMeets}
-use Rattle.filed.specs.declared.Verdict.TheVariants.{Agrees}
 use Rattle.demands.specs.Imports.{BringsIn}
-use Rattle.demands.specs.Filings.{Filing, Meets, Checks, PrintedAgrees}
+use Rattle.demands.specs.Filings.{Agrees, Filing, Meets, Checks, PrintedAgrees}
 
 -- what an account call is lent: a file, cells for rows, and a work table each for concentration and flow; what it answers, and what the slices hold then
 abbrev pub Call : Type 0

@@ -1,21 +1,41 @@
 -- What the front page says of a filing that is checked: statements only.
-use Rattle.std.specs.Prelude.{ℕ, ◌+◌, ◌-◌, ◌*◌, ◌^◌, ◌<◌, ◌≤◌, List, ◌++◌, ◌↔◌, ◌⊎◌, ◌≡◌, length, get_or}
+use Rattle.std.specs.Prelude.{ℕ, ◌+◌, ◌-◌, ◌*◌, ◌^◌, ◌<◌, ◌≤◌, List, [], ◌∷◌, ◌++◌, ◌↔◌, ◌⊎◌, ◌≡◌, length, get_or, Result, Ok, Err}
 use Rattle.law.specs.Numbers.{row_cells, total_cells, most_bytes}
-use Rattle.rules.specs.{Refusals.Fault, Judge.refuse, Outfalls.Line, Row.row_of, Row.rows_of, Row.total_of, Row.totals_of, Walk.Refused, Walk.Accepted, Walk.outcome}
+use Rattle.rules.specs.{Refusals.Fault, Refusals.fault_in, Judge.refuse, Outfalls.Line, Row.row_of, Row.rows_of, Row.total_of, Row.totals_of, Walk.Refused, Walk.Accepted, Walk.outcome}
 use Rattle.text.specs.Line.{yes_line}
 use Rattle.printed.specs.Program.{printed}
-use Rattle.filed.specs.declared.Verdict.{Verdict}
-use Rattle.filed.specs.declared.Verdict.TheVariants.{Agrees, Wrong, Refused as Unchecked}
-use Rattle.filed.specs.Filed.{verdict_on_paper, checked}
+use Rattle.rules.specs.OnPaper.{OnPaper, says}
+use Rattle.rules.specs.declared.Refused.{Refused as Fails}
+use Rattle.filed.specs.declared.Verdict.{Verdict as Found}
+use Rattle.filed.specs.declared.Verdict.TheVariants.{Agrees as Alike, Wrong as Unlike}
+use Rattle.filed.specs.Filed.{verdict_on_paper, refused_with, checked}
 use Rattle.filed.specs.Said.{said}
 
 -- what is checked: a record file, the cells of the filed rows, and the filed totals
 abbrev pub Filing : Type 0
 Filing = record { file : List ℕ; rows : List ℕ; totals : List ℕ }
 
+-- what may be said of it: it agrees; the first row and field that is wrong; or refused, with number and place, whatever they are
+pub data Verdict : Type 0 where
+  Agrees : Verdict
+  Wrong : ℕ → ℕ → Verdict
+  Unchecked : Fault → Verdict
+
+-- as the document would write it down
+unfoldable pub on_paper : Verdict → OnPaper
+on_paper Agrees = says []
+on_paper (Wrong row field) = says (row ∷ field ∷ [])
+on_paper (Unchecked f) = refused_with f
+
+-- what `check_filed` answers, in these words
+unfoldable pub spoken : Result Found Fails → Verdict
+spoken (Ok Alike) = Agrees
+spoken (Ok (Unlike row field)) = Wrong row field
+spoken (Err f) = Unchecked (fault_in f)
+
 -- the promise of `check_filed`: the definition to read is `checked`
 abbrev pub Meets : Filing → Verdict → Type 0
-Meets x v = verdict_on_paper v ≡ checked x.file x.rows x.totals
+Meets x v = on_paper v ≡ checked x.file x.rows x.totals
 
 -- "the rows and totals are those of document 01": the file is accepted, and so are they
 pub record Right (x : Filing) : Type 0 where
@@ -50,6 +70,8 @@ pub record Checks (x : Filing) : Type 0 where
   pub refused : (f : Fault) → Meets x (Unchecked f) → RefusedBy x f
   -- "8 and 9 never"
   pub never : (f : Fault) → Meets x (Unchecked f) → (f.number ≡ 8 → ⊥) × (f.number ≡ 9 → ⊥)
+  -- and what the code answers says the same on paper
+  pub code : (v : Result Found Fails) → verdict_on_paper v ≡ on_paper (spoken v)
 
 -- what the program `account` prints for a file is a filing of which the program `checker` says yes: of an accepted file that the programs take, whose figures
 -- 64 bits hold
