@@ -14,9 +14,13 @@ use Rattle.law.specs.Numbers.{row_cells}
 use Rattle.law.proofs.Seek.{seek_first, seek_none}
 use Rattle.rules.specs.OnPaper.{OnPaper, says}
 use Rattle.filed.specs.Filed.{is_wrong, compared}
-use Rattle.filed.specs.Parts.{with_bits, differing, FirstWrong}
+use Rattle.filed.specs.Parts.{with_bits, differing, FirstWrong, FirstOrNone}
 use Rattle.std.specs.List.{fold, zip}
 use Rattle.std.proofs.lemmas.List.Sums.{fold-append}
+use Rattle.std.proofs.lemmas.Slice.Zip.{length-zip, get_or-zip}
+use Rattle.std.proofs.Common.{Option, Some, None}
+use Rattle.std.specs.Option.{MatchOption}
+use Rattle.std.specs.List.{AllWithin, HoldsAt}
 
 -- no bit differs, so far and in two cells
 no_bit : (d a b : ℕ) → bit_or d (bit_xor a b) ≡ 0 → (d ≡ 0) × (a ≡ b)
@@ -47,6 +51,34 @@ no_bits d (x ∷ xs) (y ∷ ys) e =
 pub none_wrong : (filed right : List ℕ) → length filed ≡ length right → differing filed right ≡ 0 → FirstWrong filed right (length right)
 none_wrong filed right l e =
     record { within = omega arith; before = λ j m. (no_bits 0 filed right e).1 j (omega arith) m; there = λ m. absurd (omega arith) }
+
+-- the first pair of cells that differ
+module _ (filed right : List ℕ) (l : length filed ≡ length right) where
+  abbrev pairs : List (ℕ × ℕ)
+  pairs = zip filed right
+
+  long : length pairs ≡ length right
+  long = omega (arith, length-zip filed right)
+
+  pair_at : (P : ℕ × ℕ → Type 0) (j : ℕ) → j < length right → P (get_or pairs j (0, 0)) → P (get_or filed j 0, get_or right j 0)
+  pair_at P j m h = subst P (get_or-zip filed right j (0, 0) (omega arith) m) h
+
+  pub first_pair : (k : Option ℕ) → MatchOption k (AllWithin (λ p. p.0 ≡ p.1) pairs 0 (length pairs))
+      (λ i. (i < length pairs) × HoldsAt (λ p. p.0 ≡ p.1 → ⊥) pairs i × AllWithin (λ p. p.0 ≡ p.1) pairs 0 i) → FirstOrNone filed right k
+  first_pair None h =
+      record {
+        within = omega arith;
+        before = λ j m. pair_at (λ p. p.0 ≡ p.1) j m (h j (0, 0) (omega arith) (omega (arith, long)));
+        there = λ m. absurd (omega arith);
+      }
+  first_pair (Some i) h = (
+    omega (arith, long),
+    record {
+      within = omega (arith, long);
+      before = λ j m. pair_at (λ p. p.0 ≡ p.1) j (omega (arith, long)) (h.2 j (0, 0) (omega arith) m);
+      there = λ m. pair_at (λ p. p.0 ≡ p.1 → ⊥) i m (h.1 (0, 0));
+    },
+  )
 
 -- cells that are alike, or not
 alike : (filed right : List ℕ) (j : ℕ) → get_or filed j 0 ≡ get_or right j 0 → is_wrong filed right j ≡ false

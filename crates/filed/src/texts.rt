@@ -19,6 +19,7 @@ const TOO_LONG: Refused = Refused {
 };
 
 // The file first, then the text, then its rows. No account has more than 336 cells, so that a text with more is not kept whole.
+// Kept: a buffer with its count beside, which `read_filing` promises to fill as far as there is room.
 fn check_text(file: &[u8], text: &[u8]) -> Result<Verdict, Refused>
     ensures { verdict_on_paper result ≡ checked_text file.now text.now }
 {

@@ -7,6 +7,7 @@ use crate::numbers::next_number;
 use arrayvec::ArrayVec;
 
 // The numbers of a line, whether all are in their range, and what stands behind the line.
+// Kept: a flag beside the numbers, since a line that is no row (19) comes before a number out of range (20).
 #[derive(Drop)]
 pub struct Line<'a, const N: usize> {
     pub numbers: ArrayVec<u64, N>,

@@ -12,7 +12,8 @@ use Rattle.filed.proofs.against.against_account.Goals as goal
 pub returns-then-rows-right : goal.returns-then-rows-right
 unfolding verdict_on_paper refuse fault_in
 returns-then-rows-right c =
-    λ file u. checked-count file _ u _ _ (λ e. c.if-rows-right.true (omega (arith, front_long c.args.w.now.rows (row_cells * c.args.w.now.account.lines) (omega arith)))) _ refl
+    λ file u.
+    checked-count file _ u _ _ (λ e. omega (arith, c.if-rows-right.true, front_long c.args.w.now.rows (row_cells * c.args.w.now.account.lines) (omega arith))) _ refl
 
 pub returns : goal.returns
 returns c =
