@@ -5,7 +5,7 @@ ghost use Rattle.fills.specs.Parts.{patched, Roomy, Gathered, Aside, FilledBoth,
 ghost use Rattle.fills.specs.Windows.{Peaked};
 
 use crate::fill::fill_of;
-use crate::stretch::{Gap, filler, run_end, scan};
+use crate::stretch::{Gap, MEASURED, MISSING, filler, run_end, scan};
 
 // The valid values of both quantities, in their order, into the first cells of `cs` and `ls`; how many there are.
 fn gather(
@@ -18,17 +18,14 @@ fn gather(
     requires { Roomy states.now concentrations.now flows.now cs.old ls.old }
     ensures { Gathered states.now concentrations.now flows.now cs.new ls.new result }
 {
-    let mut b: usize = 0;
-    let mut i: usize = 0;
-    while i < states.len() {
-        if states[i] != 2 {
-            i += 1;
+    let mut b = 0;
+    for i in 0..states.len() {
+        if states[i] != MEASURED {
             continue;
         }
         cs[b] = concentrations[i];
         ls[b] = flows[i];
         b += 1;
-        i += 1;
     }
     b
 }
@@ -72,10 +69,10 @@ fn fill_along(states: &[u8], concentrations: &mut [u32], flows: &mut [u32], cs: 
     let mut i: usize = 0;
     while i < states.len() {
         let s = states[i];
-        if s == 2 {
+        if s == MEASURED {
             i = run_end(states, i + 1);
         } else {
-            if s == 1 {
+            if s == MISSING {
                 let gap = scan(states, i);
                 let b = i - empty;
                 cn = fill_one(states, concentrations, cs, &mut cpeaks, cn, i, b, gap);
@@ -99,5 +96,5 @@ pub fn fill_gaps(states: &[u8], concentrations: &mut [u32], flows: &mut [u32])
     let mut cs = [0u32; 2208];
     let mut ls = [0u32; 2208];
     let count = gather(states, concentrations, flows, &mut cs, &mut ls);
-    fill_along(states, concentrations, flows, &cs[0..count], &ls[0..count]);
+    fill_along(states, concentrations, flows, &cs[..count], &ls[..count]);
 }
