@@ -63,6 +63,10 @@ pub largest-from : (s : List ℕ) (i : ℕ) → i < length s → largest (drop i
 unfolding largest
 largest-from s i l = ap largest (drop-cons s i 0 l) ∙ ap (λ (k : ℕ). max (get_or s i 0) (largest (drop k s))) (sym (add-one i))
 
+-- the largest so far and of those left
+pub largest-turn : (s : List ℕ) (i r v : ℕ) → i < length s → v ≡ max r (get_or s i 0) → max r (largest (drop i s)) ≡ largest s → max v (largest (drop (i + 1) s)) ≡ largest s
+largest-turn s i r v l e h = omega (arith, e, h, largest-from s i l)
+
 pub largest-done : (s : List ℕ) (i : ℕ) → i ≡ length s → largest (drop i s) ≡ 0
 unfolding largest
 largest-done s i e = ap (λ (k : ℕ). largest (drop k s)) e ∙ ap largest (drop-length s)

@@ -2,7 +2,7 @@
 use mathlib.Core.Path.{◌≡◌, refl, ◌∙◌, sym, ap}
 use mathlib.Core.Bool.{Bool, true, false, not, ◌&&◌}
 use mathlib.Core.List.{List}
-use Prim.Native.Nat.{ℕ, ◌-◌, ◌*◌, ◌≤◌, min}
+use Prim.Native.Nat.{ℕ, ◌*◌, ◌≤◌, min}
 use native.Mathlib.Omega.{arith}
 use lib.ListN.{length, take}
 use lib.Dec.{eqb, leb}
@@ -34,10 +34,6 @@ filled-fits method first days conc flow e =
 and_false : (b : Bool) → (b && false) ≡ false
 and_false true = refl
 and_false false = refl
-
--- the part of the states that is lent
-pub part_filled : (states cells cells' : List ℕ) (n : ℕ) → cells' ≡ filled_cells (take (n - 0) states) cells → cells' ≡ filled_cells (take n states) cells
-part_filled states cells cells' n e = e ∙ ap (λ (k : ℕ). filled_cells (take k states) cells) (let z : n - 0 ≡ n = omega arith in z)
 
 -- ---- where the states are those that the masks say, a period is filled under method 1, and else as it was
 module _ (runs measured states : List ℕ) (days first : ℕ) (is : first ≡ first_missing runs measured days) (said : take (hours_of_day * days) states ≡ period_states runs measured days) where

@@ -1,11 +1,12 @@
 -- What a turn of a scan and of a run of measured hours does. Assumes nothing.
-use mathlib.Core.Path.{◌≡◌, sym, subst}
+use mathlib.Core.Path.{◌≡◌, ◌∙◌, ap, sym, subst}
 use mathlib.Core.Logic.{⊎_elim}
 use mathlib.Core.List.{List}
-use Prim.Native.Nat.{ℕ, ◌+◌, ◌<◌, ◌≤◌}
+use Prim.Native.Nat.{ℕ, ◌+◌, ◌-◌, ◌<◌, ◌≤◌}
 use native.Mathlib.Nat.{eq-or-lt_of_le}
 use native.Mathlib.Omega.{arith}
-use lib.ListN.{length, get_or}
+use lib.ListN.{length, get_or, drop, length-drop}
+use lib.Seq.{get_or-drop}
 use Rattle.rules.specs.Slots.{run}
 use Rattle.fills.specs.Gaps.{row}
 use Rattle.fills.specs.Parts.{Scanned, Measured}
@@ -73,10 +74,13 @@ module _ (states : List ℕ) (first : ℕ) where
             counts = λ values. omega (arith, s.counts values, run_stopped states values next l q p);
           }
 
-  -- a run of measured hours, before its first hour and one hour on
-  pub measured_none : first ≤ length states → Measured states first first
-  measured_none l = record { begins = omega arith; ends = l; all = λ k p q. absurd (let z : ⊥ = omega arith in z) }
-
-  pub measured_more : (k : ℕ) → k < length states → Measured states first k → get_or states k 0 ≡ 2 → Measured states first (k + 1)
-  measured_more k l m e =
-      record { begins = omega (arith, m.begins); ends = omega arith; all = one_more_lem (λ j. get_or states j 0 ≡ 2) first k m.all e }
+  -- a run of measured hours
+  pub measured_run : (part : List ℕ) (r : ℕ) → part ≡ drop first states → first ≤ length states → r ≤ length part → ((k : ℕ) → k < r → get_or part k 0 ≡ 2) → Measured states first (first + r)
+  measured_run part r f l m e =
+      record {
+        begins = omega arith;
+        ends = omega (arith, m, ap length f, length-drop first states);
+        all =
+            λ k p q. ap (λ (j : ℕ). get_or states j 0) (let z : k ≡ first + (k - first) = omega arith in z)
+            ∙ sym (get_or-drop first states (k - first) 0) ∙ ap (λ (t : List ℕ). get_or t (k - first) 0) (sym f) ∙ e (k - first) (omega arith);
+      }

@@ -1,5 +1,5 @@
 -- The largest of the values from a place up to another, and by the peaks of each 48 values. Assumes nothing.
-use mathlib.Core.Path.{◌≡◌, ◌∙◌, sym, ap, ap₂}
+use mathlib.Core.Path.{◌≡◌, ◌∙◌, sym, ap, ap₂, subst}
 use mathlib.Core.Logic.{⊎_elim}
 use mathlib.Core.List.{List}
 use Prim.Native.Nat.{ℕ, zero, suc, ◌+◌, ◌-◌, ◌*◌, ◌<◌, ◌≤◌, max}
@@ -59,3 +59,10 @@ module _ (s peaks : List ℕ) where
         ap (λ (t : List ℕ). largest (take (suc c) t)) (drop-cons peaks a 0 (omega (arith, p.few, p.room, p.inside)))
         ∙ ap₂ max first (rest ∙ ap₂ (span s) next far)
         ∙ sym (span-parted s (48 * a) (48 * a + 48) (48 * (a + suc c)) (omega arith) (omega arith))
+
+-- what is held of the valid values is held of a list that is the same
+pub of_same : (v s peaks : List ℕ) (n b : ℕ) → v ≡ s → Peaked s peaks n → b ≤ length s → Peaked v peaks n × (b ≤ length v)
+of_same v s peaks n b e p l = (subst (λ (t : List ℕ). Peaked t peaks n) (sym e) p, subst (λ (t : List ℕ). b ≤ length t) (sym e) l)
+
+pub no_peak-yet : (v s peaks : List ℕ) (n : ℕ) → length s ≤ most_hours → (v ≡ s) × (length peaks ≡ 46) × (n ≡ 0) → Peaked s peaks n
+no_peak-yet v s peaks n l e = subst (Peaked s peaks) (sym e.2) (no_peak s peaks l e.1)

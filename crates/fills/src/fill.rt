@@ -7,7 +7,6 @@ ghost use Rattle.fills.specs.Parts.{gap_fill};
 ghost use Rattle.fills.specs.Windows.{Peaked};
 
 use crate::window::{largest_of, last_720, put_peaks};
-use cells::lesser;
 
 // A fill, and how many peaks of the valid values are there by then.
 #[derive(Clone, Copy)]
@@ -20,7 +19,7 @@ pub struct Found {
 fn mean_up(before: u32, after: u32) -> u32
     ensures { result ≡ mean_up before after }
 {
-    (((before as u64) + (after as u64) + 1) / 2) as u32
+    ((u64::from(before) + u64::from(after) + 1) / 2) as u32
 }
 
 // A gap of 24 or fewer: the two nearest, or the one side that there is.
@@ -46,8 +45,7 @@ fn short_fill(valid: &[u32], b: usize) -> u32
 fn first_720(valid: &[u32]) -> u32
     ensures { result ≡ largest (take long_window valid.now) }
 {
-    let end = lesser(valid.len(), 720);
-    largest_of(&valid[0..end])
+    largest_of(&valid[..valid.len().min(720)])
 }
 
 // The fill of a gap of `gap` missing hours; of the peaks `n` are there already.

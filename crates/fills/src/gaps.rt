@@ -5,7 +5,7 @@ ghost use Rattle.fills.specs.Parts.{patched, Roomy, Gathered, Aside, FilledBoth,
 ghost use Rattle.fills.specs.Windows.{Peaked};
 
 use crate::fill::fill_of;
-use crate::stretch::{Gap, filler, run_end, scan};
+use crate::stretch::{Gap, MEASURED, MISSING, filler, run_end, scan};
 
 // The valid values of both quantities, in their order, into the first cells of `cs` and `ls`; how many there are.
 fn gather(
@@ -18,45 +18,53 @@ fn gather(
     requires { Roomy states.now concentrations.now flows.now cs.old ls.old }
     ensures { Gathered states.now concentrations.now flows.now cs.new ls.new result }
 {
-    let mut b: usize = 0;
-    let mut i: usize = 0;
-    while i < states.len() {
-        if states[i] != 2 {
-            i += 1;
+    let mut b = 0;
+    for i in 0..states.len() {
+        if states[i] != MEASURED {
             continue;
         }
         cs[b] = concentrations[i];
         ls[b] = flows[i];
         b += 1;
-        i += 1;
     }
     b
 }
 
-// One quantity of the gap at hour `first`: `kept` has its valid values, of which `b` stand before the gap, and `n` of their peaks are there; how many are then.
-fn fill_one(
-    states: &[u8],
-    values: &mut [u32],
-    kept: &[u32],
-    peaks: &mut [u32],
-    n: usize,
-    first: usize,
-    b: usize,
-    gap: Gap,
-) -> usize
-    requires { ((first ≤ gap.next) × (gap.next ≤ length states.now) × (gap.next ≤ length values.old))
-        × (Peaked kept.now peaks.old n × (b ≤ length kept.now)) }
-    ensures { (values.new ≡ patched states.now (gap_fill gap.missing kept.now b) first gap.next values.old)
-        × Peaked kept.now peaks.new result }
-{
-    let f = fill_of(gap.missing, kept, b, peaks, n);
-    filler(
-        &mut values[first..],
-        &states[first..],
-        gap.next - first,
-        f.value,
-    );
-    f.peaked
+// The valid values of one quantity, in the order of the hours, and their peaks, of which so many are there.
+#[derive(Clone, Copy)]
+struct Series<'a> {
+    valid: &'a [u32],
+    peaks: [u32; 46],
+    peaked: usize,
+}
+
+impl<'a> Series<'a> {
+    fn new(valid: &'a [u32]) -> Series<'a>
+        ensures { (result.valid.now ≡ valid.entry.now) × (length result.peaks ≡ 46) × (result.peaked ≡ 0) }
+    {
+        Series {
+            valid,
+            peaks: [0; 46],
+            peaked: 0,
+        }
+    }
+
+    // The cells of the gap at hour `first`; `b` of the valid values stand before the gap.
+    fn fill(&mut self, states: &[u8], values: &mut [u32], first: usize, b: usize, gap: Gap)
+        requires { ((first ≤ gap.next) × (gap.next ≤ length states.now) × (gap.next ≤ length values.old))
+            × (Peaked self.old.valid.now self.old.peaks self.old.peaked × (b ≤ length self.old.valid.now)) }
+        ensures { (values.new ≡ patched states.now (gap_fill gap.missing self.old.valid.now b) first gap.next values.old)
+            × Peaked self.old.valid.now self.new.peaks self.new.peaked × (self.new.valid.now ≡ self.old.valid.now) }
+    {
+        let found = fill_of(gap.missing, self.valid, b, &mut self.peaks, self.peaked);
+        self.peaked = found.peaked;
+        filler(
+            &mut values[first..],
+            &states[first..],
+            gap.next - first,
+            found.value,
+        );
+    }
 }
 
 // Every gap, from the first hour on: of the hours before `i`, `empty` are not measured.
@@ -64,28 +72,24 @@ fn fill_along(states: &[u8], concentrations: &mut [u32], flows: &mut [u32], cs: 
     requires { Aside states.now concentrations.old flows.old cs.now ls.now × (length cs.now ≤ most_hours) × (length ls.now ≤ most_hours) }
     ensures { FilledBoth states.now concentrations.old flows.old concentrations.new flows.new }
 {
-    let mut cpeaks = [0u32; 46];
-    let mut lpeaks = [0u32; 46];
-    let mut cn: usize = 0;
-    let mut ln: usize = 0;
+    let mut c = Series::new(cs);
+    let mut l = Series::new(ls);
     let mut empty: usize = 0;
     let mut i: usize = 0;
     while i < states.len() {
         let s = states[i];
-        if s == 2 {
+        if s == MEASURED {
             i = run_end(states, i + 1);
+        } else if s == MISSING {
+            let gap = scan(states, i);
+            let b = i - empty;
+            c.fill(states, concentrations, i, b, gap);
+            l.fill(states, flows, i, b, gap);
+            i = gap.next;
+            empty = i - b;
         } else {
-            if s == 1 {
-                let gap = scan(states, i);
-                let b = i - empty;
-                cn = fill_one(states, concentrations, cs, &mut cpeaks, cn, i, b, gap);
-                ln = fill_one(states, flows, ls, &mut lpeaks, ln, i, b, gap);
-                i = gap.next;
-                empty = i - b;
-            } else {
-                empty += 1;
-                i += 1;
-            }
+            empty += 1;
+            i += 1;
         }
     }
 }
@@ -99,5 +103,5 @@ pub fn fill_gaps(states: &[u8], concentrations: &mut [u32], flows: &mut [u32])
     let mut cs = [0u32; 2208];
     let mut ls = [0u32; 2208];
     let count = gather(states, concentrations, flows, &mut cs, &mut ls);
-    fill_along(states, concentrations, flows, &cs[0..count], &ls[0..count]);
+    fill_along(states, concentrations, flows, &cs[..count], &ls[..count]);
 }

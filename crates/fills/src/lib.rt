@@ -8,8 +8,6 @@ mod window;
 
 ghost use Rattle.fills.specs.Period.{PeriodFilled};
 
-use cells::lesser;
-
 // "Fills under method 1 only", by the states of the hours, and the first missing hour plus 1, by the masks: a line that lacks no hour has nothing to fill.
 pub fn fill_period(
     method: u32,
@@ -24,11 +22,10 @@ pub fn fill_period(
         conc.new flow.new result }
 {
     let first = hours::first_missing(runs, measured, days);
-    let room = lesser(2208, lesser(conc.len(), flow.len()));
+    let room = conc.len().min(flow.len()).min(2208);
     let n = 24 * (days as usize);
     if (method == 1) & (n <= room) & (first != 0) {
-        let all = &states[..];
-        gaps::fill_gaps(&all[0..n], conc, flow);
+        gaps::fill_gaps(&states[..n], conc, flow);
     }
     first
 }

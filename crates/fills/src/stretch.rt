@@ -1,7 +1,12 @@
 // One stretch of hours. A state is 2 for a measured hour and 1 for a missing one; with any other the hour is stopped.
-ghost use Rattle.std.specs.Prelude.{◌≡◌, ◌≤◌, length};
+ghost use Rattle.std.specs.Prelude.{◌≡◌, ℕ, ◌<◌, ◌≤◌, get_or, length};
 ghost use Rattle.law.specs.Words.{over};
 ghost use Rattle.fills.specs.Parts.{spot, Scanned, Measured};
+
+// The states of an hour.
+pub const MISSING: u8 = 1;
+
+pub const MEASURED: u8 = 2;
 
 // The missing hours up to the next measured one, and that hour, or the number of hours.
 #[derive(Clone, Copy)]
@@ -15,19 +20,31 @@ pub fn scan(states: &[u8], first: usize) -> Gap
     requires { first ≤ length states.now }
     ensures { Scanned states.now first result.missing result.next }
 {
-    let mut missing: usize = 0;
-    let mut next = first;
-    while next < states.len() {
+    let mut missing = 0;
+    for next in first..states.len() {
         let state = states[next];
-        if state == 2 {
+        if state == MEASURED {
             return Gap { missing, next };
         }
-        if state == 1 {
+        if state == MISSING {
             missing += 1;
         }
-        next += 1;
     }
-    Gap { missing, next }
+    Gap {
+        missing,
+        next: states.len(),
+    }
+}
+
+// How many hours are measured from the first one on.
+fn measured_hours(states: &[u8]) -> usize
+    ensures within { result ≤ length states.now }
+    ensures all { (k : ℕ) → k < result → get_or states.now k 0 ≡ MEASURED }
+{
+    states
+        .iter()
+        .position(|state| *state != MEASURED)
+        .unwrap_or(states.len())
 }
 
 // The end of the measured hours from `first` on.
@@ -35,14 +52,7 @@ pub fn run_end(states: &[u8], first: usize) -> usize
     requires { first ≤ length states.now }
     ensures { Measured states.now first result }
 {
-    let mut k = first;
-    while k < states.len() {
-        if states[k] != 2 {
-            return k;
-        }
-        k += 1;
-    }
-    k
+    first + measured_hours(&states[first..])
 }
 
 // `v` into the missing hours among the first `count`.
@@ -50,11 +60,9 @@ pub fn filler(part: &mut [u32], states: &[u8], count: usize, v: u32)
     requires { (count ≤ length part.old) × (count ≤ length states.now) }
     ensures { part.new ≡ over (spot states.now v part.old) count part.old }
 {
-    let mut k: usize = 0;
-    while k < count {
-        if states[k] == 1 {
+    for k in 0..count {
+        if states[k] == MISSING {
             part[k] = v;
         }
-        k += 1;
     }
 }

@@ -1,31 +1,19 @@
 // The largest of the last 720 valid values before a long gap. The largest of each 48 values, their peak, is found once for all gaps of a line: a window is made
 // of at most 15 peaks and of fewer than 48 values before and behind them.
-ghost use Rattle.std.specs.Prelude.{◌≡◌, ◌-◌, ◌/◌, ◌≤◌, max, length};
+ghost use Rattle.std.specs.Prelude.{◌≡◌, ◌-◌, ◌/◌, ◌≤◌, length};
 ghost use Rattle.law.specs.Numbers.{long_window};
 ghost use Rattle.law.specs.Words.{largest};
 ghost use Rattle.fills.specs.Windows.{span, Peaked};
 
-use cells::lesser;
-
-fn larger(a: u32, b: u32) -> u32
-    ensures { result ≡ max a b }
+// The largest of some values, 0 of none.
+pub fn largest_of(values: &[u32]) -> u32
+    ensures { result ≡ largest values.now }
 {
-    if a <= b { b } else { a }
-}
-
-pub fn largest_of(s: &[u32]) -> u32
-    ensures { result ≡ largest s.now }
-{
-    let mut r: u32 = 0;
-    let mut i: usize = 0;
-    while i < s.len() {
-        let v = s[i];
-        if r < v {
-            r = v;
-        }
-        i += 1;
+    let mut most = 0u32;
+    for value in values {
+        most = most.max(*value);
     }
-    r
+    most
 }
 
 // The peaks among the first `b` values, of which `n` are there already; how many are there then.
@@ -33,13 +21,11 @@ pub fn put_peaks(valid: &[u32], b: usize, peaks: &mut [u32], n: usize) -> usize
     requires { Peaked valid.now peaks.old n × (b ≤ length valid.now) }
     ensures { Peaked valid.now peaks.new result × (b / 48 ≤ result) }
 {
-    let mut k = n;
-    while 48 * k + 48 <= b {
-        let from = 48 * k;
-        peaks[k] = largest_of(&valid[from..from + 48]);
-        k += 1;
+    let end = n.max(b / 48);
+    for k in n..end {
+        peaks[k] = largest_of(&valid[48 * k..48 * k + 48]);
     }
-    k
+    end
 }
 
 // The largest of the last 720 of the first `b` values, or of all if fewer.
@@ -47,11 +33,11 @@ pub fn last_720(valid: &[u32], b: usize, peaks: &[u32]) -> u32
     requires { Peaked valid.now peaks.now (b / 48) × (b ≤ length valid.now) }
     ensures { result ≡ span valid.now (b - long_window) b }
 {
-    let start = b - lesser(b, 720);
-    let first = (start + 47) / 48;
+    let start = b.saturating_sub(720);
+    let first = start.div_ceil(48);
     let last = b / 48;
     let before = largest_of(&valid[start..48 * first]);
     let between = largest_of(&peaks[first..last]);
     let behind = largest_of(&valid[48 * last..b]);
-    larger(before, larger(between, behind))
+    before.max(between).max(behind)
 }

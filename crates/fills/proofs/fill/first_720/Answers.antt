@@ -1,7 +1,6 @@
 -- `fills::fill::first_720` meets its contract. Assumes nothing.
 use mathlib.Core.Path.{◌∙◌, ap}
 use Prim.Native.Nat.{ℕ}
-use native.Mathlib.Nat.{sub-zero}
 use lib.ListN.{take}
 use Rattle.law.specs.Numbers.{long_window}
 use Rattle.law.specs.Words.{largest}
@@ -11,4 +10,4 @@ use Rattle.fills.proofs.fill.first_720.Goals as goal
 pub returns : goal.returns
 returns c =
     let v = c.args.valid.now in
-    c.largest_of.ensures ∙ ap (λ (k : ℕ). largest (take k v)) (sub-zero c.lesser-end.result ∙ c.lesser-end.ensures) ∙ ap largest (take-few long_window v)
+    c.largest_of.ensures ∙ ap (λ (k : ℕ). largest (take k v)) c.min.ensures ∙ ap largest (take-few long_window v)

@@ -6,4 +6,4 @@ use Rattle.fills.proofs.fill.mean_up.Goals as goal
 
 pub returns : goal.returns
 unfolding mean_up
-returns c = sym (mean_is _ _)
+returns c = rw (c.from.ensures, c.from-2.ensures) (sym (mean_is _ _))

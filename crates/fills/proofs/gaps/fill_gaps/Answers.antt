@@ -1,8 +1,6 @@
 -- `fills::gaps::fill_gaps` meets its contract. Assumes nothing.
-use mathlib.Core.Path.{◌∙◌, ap}
 use mathlib.Core.List.{List}
-use Prim.Native.Nat.{ℕ, ◌-◌, ◌≤◌}
-use native.Mathlib.Nat.{sub-zero}
+use Prim.Native.Nat.{ℕ, ◌≤◌}
 use native.Mathlib.Omega.{arith}
 use lib.ListN.{length, take, length-take}
 use Rattle.law.specs.Numbers.{most_hours}
@@ -18,8 +16,8 @@ fill_along-requires c =
     let n = c.gather-count.result in
     let e = c.gather-count.ensures in
     let p = c.requires in
-    let few : (s : List ℕ) → length (take (n - 0) s) ≤ most_hours = λ s. omega (arith, length-take (n - 0) s, e.0, p.0) in (
-      (p.1, p.2, ap (λ (k : ℕ). take k c.gather-count.new.cs) (sub-zero n) ∙ e.1, ap (λ (k : ℕ). take k c.gather-count.new.ls) (sub-zero n) ∙ e.2),
+    let few : (s : List ℕ) → length (take n s) ≤ most_hours = λ s. omega (arith, length-take n s, e.0, p.0) in (
+      (p.1, p.2, e.1, e.2),
       few c.gather-count.new.cs,
       few c.gather-count.new.ls,
     )

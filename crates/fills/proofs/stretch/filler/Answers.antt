@@ -10,7 +10,7 @@ use Rattle.law.proofs.Tests.{pick_eq, pick_not_eq}
 use Rattle.law.proofs.Over.{over_none, over_more, over_skip}
 use Rattle.fills.specs.Parts.{spot}
 use Rattle.fills.proofs.stretch.filler.Goals as goal
-use Rattle.fills.proofs.stretch.filler.Goals.{then-states-k-eq1, else-states-k-eq1}
+use Rattle.fills.proofs.stretch.filler.Goals.{then-states-k-eq-MISSING, else-states-k-eq-MISSING}
 
 pub loop-k-init : goal.loop-k-init
 loop-k-init c = (search rules, search rules, over_none _ _)
@@ -24,12 +24,12 @@ loop-k-preserved c =
     let d = a.part.now in
     let s = a.states.now in
     let f = spot s v d in
-    elim c.if-states-k-eq1.branch [
-      | then-states-k-eq1 w ↦
-          let e : f k ≡ v = sym (pick_eq _ _ _ _ _ w.if-states-k-eq1.true refl) in
+    elim c.if-states-k-eq-MISSING.branch [
+      | then-states-k-eq-MISSING w ↦
+          let e : f k ≡ v = sym (pick_eq _ _ _ _ _ w.if-states-k-eq-MISSING.true refl) in
           (omega arith, ap length w.part-is ∙ length-set l.part k v ∙ l.invariant.1, w.part-is ∙ ap₂ (λ (t : List ℕ) (x : ℕ). set t k x) l.invariant.2 (sym e) ∙ over_more f k d (omega arith))
-      | else-states-k-eq1 w ↦
-          let e : f k ≡ get_or d k 0 = sym (pick_not_eq _ _ _ _ _ w.if-states-k-eq1.false refl) in
+      | else-states-k-eq-MISSING w ↦
+          let e : f k ≡ get_or d k 0 = sym (pick_not_eq _ _ _ _ _ w.if-states-k-eq-MISSING.false refl) in
           (omega arith, ap length w.part-is ∙ l.invariant.1, w.part-is ∙ l.invariant.2 ∙ over_skip f k d (omega arith) e)
     ]
 

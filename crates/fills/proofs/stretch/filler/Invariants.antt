@@ -1,6 +1,6 @@
 -- `fills::stretch::filler` meets its contract. Assumes nothing.
 use mathlib.Core.Path.{◌≡◌}
-use Prim.Native.Nat.{◌-◌, ◌≤◌}
+use Prim.Native.Nat.{◌≤◌}
 use lib.ListN.{length}
 use Rattle.law.specs.Words.{over}
 use Rattle.fills.specs.Parts.{spot}
@@ -8,6 +8,3 @@ use Rattle.fills.proofs.stretch.filler.Given as goal
 
 abbrev pub invariant-loop-k : goal.invariant-loop-k
 invariant-loop-k l = (l.k ≤ l.count) × (length l.part ≡ length l.initial.part) × (l.part ≡ over (spot l.states l.v l.initial.part) l.k l.initial.part)
-
-abbrev pub decreases-loop-k : goal.decreases-loop-k
-decreases-loop-k l = l.count - l.k

@@ -12,13 +12,13 @@ returns c =
     let p = c.requires.0 in
     let v = c.args.valid.now in
     let b = c.args.b in
-    let start = b - c.lesser.result in
-    let first = (start + 47) / 48 in
+    let start = c.saturating_sub-start.result in
+    let first = c.div_ceil-first.result in
     let last = b / 48 in
-    let at : start ≡ b - long_window = omega (arith, c.lesser.ensures) in
-    let up : start ≤ 48 * first = omega arith in
-    let on : first ≤ last = omega (arith, at) in
+    let at : start ≡ b - long_window = c.saturating_sub-start.ensures in
+    let up : start ≤ 48 * first = omega (arith, c.div_ceil-first.ensures) in
+    let on : first ≤ last = omega (arith, at, c.div_ceil-first.ensures) in
     let back : 48 * last ≤ b = omega arith in
     let middle = c.largest_of-between.ensures ∙ by_peaks v _ last p first (last - first) (omega arith) ∙ ap (λ (k : ℕ). span v (48 * first) (48 * k)) (let z : first + (last - first) ≡ last = omega arith in z) in
-    omega (arith, c.larger-2.ensures, c.larger.ensures, c.largest_of-before.ensures, middle, c.largest_of-behind.ensures, span-parted v start (48 * first) b up (omega arith), span-parted v (48 * first) (48 * last) b (omega arith) back)
+    omega (arith, c.max-2.ensures, c.max.ensures, c.largest_of-before.ensures, middle, c.largest_of-behind.ensures, span-parted v start (48 * first) b up (omega arith), span-parted v (48 * first) (48 * last) b (omega arith) back)
     ∙ ap (λ (k : ℕ). span v k b) at
