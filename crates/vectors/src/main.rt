@@ -36,19 +36,10 @@ fn next(from: &mut impl Read, out: &impl Print, buf: &mut [u8], piece: usize) ->
     Ok(true)
 }
 
-// Odd sizes, another from file to file.
-fn piece(turn: u32) -> usize {
-    match turn % 3 {
-        0 => 1,
-        1 => 7,
-        _ => 4099,
-    }
-}
-
-// A proved loop has to end: it counts down from more files than a corpus has.
+// In pieces of odd sizes, another from file to file. A proved loop has to end: it takes more sizes than a corpus has files.
 fn answer_all(from: &mut impl Read, out: &impl Print, buf: &mut [u8]) -> io::Result<()> {
-    for left in (1..=1_000_000).rev() {
-        if !next(from, out, buf, piece(left))? {
+    for piece in [7, 1, 4099].into_iter().cycle().take(1_000_000) {
+        if !next(from, out, buf, piece)? {
             break;
         }
     }
