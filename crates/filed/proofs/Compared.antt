@@ -14,14 +14,39 @@ use Rattle.law.specs.Numbers.{row_cells}
 use Rattle.law.proofs.Seek.{seek_first, seek_none}
 use Rattle.rules.specs.OnPaper.{OnPaper, says}
 use Rattle.filed.specs.Filed.{is_wrong, compared}
-use Rattle.filed.specs.Parts.{FirstWrong}
+use Rattle.filed.specs.Parts.{with_bits, differing, FirstWrong}
+use Rattle.std.specs.List.{fold, zip}
+use Rattle.std.proofs.lemmas.List.Sums.{fold-append}
 
 -- no bit differs, so far and in two cells
-pub no_bit : (d a b : ℕ) → bit_or d (bit_xor a b) ≡ 0 → (d ≡ 0) × (a ≡ b)
+no_bit : (d a b : ℕ) → bit_or d (bit_xor a b) ≡ 0 → (d ≡ 0) × (a ≡ b)
 no_bit d a b z =
     let x = bit_xor a b in
     let none : (d ≡ 0) × (x ≡ 0) = (omega (arith, or_add_and d x, and_le_l d x, and_le_r d x), omega (arith, or_add_and d x, and_le_l d x, and_le_r d x)) in
     (none.0, omega (arith, xor_add_and a b, and_le_l a b, and_le_r a b, none.1))
+
+-- the bits of one pair more
+pub bits_on : (ps : List (ℕ × ℕ)) (p : ℕ × ℕ) (bits : ℕ) → bits ≡ fold with_bits 0 ps → with_bits bits p ≡ fold with_bits 0 (ps ++ (p ∷ []))
+bits_on ps p bits e = ap (λ (b : ℕ). with_bits b p) e ∙ sym (fold-append with_bits 0 ps (p ∷ []))
+
+-- nor in any cells of two lists
+no_bits : (d : ℕ) (xs ys : List ℕ) → fold with_bits d (zip xs ys) ≡ 0
+    → (d ≡ 0) × ((j : ℕ) → j < length xs → j < length ys → get_or xs j 0 ≡ get_or ys j 0)
+no_bits d [] ys e = (e, λ j l m. absurd (omega arith))
+no_bits d (x ∷ xs) [] e = (e, λ j l m. absurd (omega arith))
+no_bits d (x ∷ xs) (y ∷ ys) e =
+    let i = no_bits (bit_or d (bit_xor x y)) xs ys e in
+    let n = no_bit d x y i.0 in
+    (n.0, λ j l m. at_place x y xs ys n.1 i.1 j l m)
+  where
+    at_place : (x y : ℕ) (xs ys : List ℕ) → x ≡ y → ((j : ℕ) → j < length xs → j < length ys → get_or xs j 0 ≡ get_or ys j 0)
+        → (j : ℕ) → j < suc (length xs) → j < suc (length ys) → get_or (x ∷ xs) j 0 ≡ get_or (y ∷ ys) j 0
+    at_place x y xs ys e h zero l m = e
+    at_place x y xs ys e h (suc j) l m = h j (omega arith) (omega arith)
+
+pub none_wrong : (filed right : List ℕ) → length filed ≡ length right → differing filed right ≡ 0 → FirstWrong filed right (length right)
+none_wrong filed right l e =
+    record { within = omega arith; before = λ j m. (no_bits 0 filed right e).1 j (omega arith) m; there = λ m. absurd (omega arith) }
 
 -- cells that are alike, or not
 alike : (filed right : List ℕ) (j : ℕ) → get_or filed j 0 ≡ get_or right j 0 → is_wrong filed right j ≡ false

@@ -1,25 +1,26 @@
 -- Document 02, A6, "check what a plant has filed": "record file and filed rows in, yes or the first row and field that is wrong out".
-use Rattle.std.specs.Prelude.{ℕ, ◌*◌, ◌/◌, ◌%◌, Bool, not, List, [], ◌∷◌, ◌++◌, length, get_or, eqb}
+use Rattle.std.specs.Prelude.{ℕ, ◌*◌, ◌/◌, ◌%◌, Bool, not, List, [], ◌∷◌, ◌++◌, length, get_or, eqb, Result, Ok, Err}
 use Rattle.law.specs.Numbers.{row_cells}
 use Rattle.law.specs.Words.{need, seek}
-use Rattle.rules.specs.Refusals.{Fault}
+use Rattle.rules.specs.Refusals.{Fault, fault_in}
+use Rattle.rules.specs.declared.Refused.{Refused as Fails}
 use Rattle.rules.specs.OnPaper.{OnPaper, says}
 use Rattle.rules.specs.Outfalls.{Line}
 use Rattle.rules.specs.Row.{rows_of, totals_of}
 use Rattle.rules.specs.Judge.{refuse}
 use Rattle.rules.specs.Walk.{Outcome, Refused, Accepted, outcome}
 use Rattle.filed.specs.declared.Verdict.{Verdict}
-use Rattle.filed.specs.declared.Verdict.TheVariants.{Agrees, Wrong, Refused as Unchecked}
+use Rattle.filed.specs.declared.Verdict.TheVariants.{Agrees, Wrong}
 
 -- refused, with number and place
 abbrev pub refused_with : Fault → OnPaper
 refused_with f = record { number = f.number; values = f.place ∷ [] }
 
 -- an answer as the document would write it down: "yes"; "the first row and field that is wrong"; or a number and a place
-unfoldable pub verdict_on_paper : Verdict → OnPaper
-verdict_on_paper Agrees = says []
-verdict_on_paper (Wrong row field) = says (row ∷ field ∷ [])
-verdict_on_paper (Unchecked f) = refused_with f
+unfoldable pub verdict_on_paper : Result Verdict Fails → OnPaper
+verdict_on_paper (Ok Agrees) = says []
+verdict_on_paper (Ok (Wrong row field)) = says (row ∷ field ∷ [])
+verdict_on_paper (Err f) = refused_with (fault_in f)
 
 -- "totals count as one more row after the last": rows and totals, cell by cell
 abbrev pub with_totals : List ℕ → List ℕ → List ℕ

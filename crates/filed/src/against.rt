@@ -1,39 +1,28 @@
 // The filed cells beside the account of the file.
-ghost use Rattle.std.specs.Prelude.{◌≡◌, ◌*◌, ◌≤◌};
+ghost use Rattle.std.specs.Prelude.{◌*◌, ◌≤◌};
 ghost use Rattle.law.specs.Numbers.{row_cells, most_cells};
-ghost use Rattle.filed.specs.Filed.{verdict_on_paper, refused_with};
+ghost use Rattle.filed.specs.Filed.{verdict_on_paper};
 ghost use Rattle.filed.specs.Parts.{CheckedBy};
 
 use crate::Verdict;
 use crate::compare::verdict_of;
-use rules::{Answer, Fault};
+use rules::{Refusal, Refused};
+use walk::Walked;
 
 // "Wrong row count", with place 0.
-pub const WRONG_COUNT: Fault = Fault {
-    number: 22,
+pub const WRONG_COUNT: Refused = Refused {
+    refusal: Refusal::RowCount,
     place: 0,
 };
 
-// "The file's own come first."
-pub fn own_refusal(a: Answer) -> Verdict
-    ensures { verdict_on_paper result ≡ refused_with (record { number = a.number; place = a.place }) }
-{
-    Verdict::Refused(Fault {
-        number: a.number,
-        place: a.place,
-    })
-}
-
 // Of an accepted file: 22, or the cells compared.
-pub fn against_account(a: Answer, table: &[u64; 336], rows: &[u64], totals: &[u64; 5]) -> Verdict
-    requires { (a.number ≡ 0) × (row_cells * a.rows ≤ most_cells) }
-    ensures { CheckedBy a table.now rows.now totals.now (verdict_on_paper result) }
+pub fn against_account(w: &Walked, rows: &[u64], totals: &[u64; 5]) -> Result<Verdict, Refused>
+    requires { row_cells * w.now.account.lines ≤ most_cells }
+    ensures { CheckedBy w.now rows.now totals.now (verdict_on_paper result) }
 {
-    let n = 7 * a.rows;
-    if rows.len() != n {
-        return Verdict::Refused(WRONG_COUNT);
+    let right = &w.rows[..7 * w.account.lines];
+    if rows.len() != right.len() {
+        return Err(WRONG_COUNT);
     }
-    let cells = &table[..];
-    let right = a.totals;
-    verdict_of(rows, &cells[0..n], totals, &right)
+    Ok(verdict_of(rows, right, totals, &w.account.totals))
 }

@@ -10,30 +10,23 @@ ghost use Rattle.text.specs.Text.{Text};
 ghost use Rattle.filed.specs.Filed.{verdict_on_paper, checked};
 ghost use Rattle.filed.specs.Said.{said};
 
-use crate::against::{against_account, own_refusal};
-use crate::texts::{check_text, verdict_text};
-use rules::Fault;
-use text::Said;
+use crate::against::against_account;
+use crate::texts::{check_program, said_of};
+use rules::Refused;
 
-// Rows and totals are those of the account; or the first row and field that is wrong, both from 0; or refused.
-#[derive(Clone, Copy)]
+// Rows and totals are those of the account; or the first row and field that is wrong, both from 0.
+#[derive(Clone, Copy, Debug, PartialEq, Eq)]
 pub enum Verdict {
     Agrees,
     Wrong(usize, usize),
-    Refused(Fault),
 }
 
-// Filed rows, seven cells each, and the five totals, beside those of the account.
-pub fn check_filed(file: &[u8], rows: &[u64], totals: &[u64; 5]) -> Verdict
+// Filed rows, seven cells each, and the five totals, beside those of the account; or what refuses the file, or 22.
+pub fn check_filed(file: &[u8], rows: &[u64], totals: &[u64; 5]) -> Result<Verdict, Refused>
     ensures { verdict_on_paper result ≡ checked file.now rows.now totals.now }
 {
-    let w = walk::walk_unlent(file);
-    let a = w.answer;
-    if a.number != 0 {
-        return own_refusal(a);
-    }
-    let table = w.rows;
-    against_account(a, &table, rows, totals)
+    let w = walk::walk_unlent(file)?;
+    against_account(&w, rows, totals)
 }
 
 // What the program says of a record file and the text of a filing: 13 comes before either is looked at.
@@ -41,11 +34,5 @@ pub fn filed_text(file: &[u8], text: &[u8], line: &mut [u8]) -> usize
     ensures text { Text (said file.now text.now) line.old line.new result }
     ensures upper_bound { result ≤ length line.new }
 {
-    if file.len() > 65536 {
-        return text::said_text(line, Said::Refused(13, 0));
-    }
-    if text.len() > 65536 {
-        return text::said_text(line, Said::Refused(13, 0));
-    }
-    verdict_text(check_text(file, text), line)
+    text::said_text(line, said_of(check_program(file, text)))
 }

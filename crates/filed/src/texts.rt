@@ -1,48 +1,54 @@
 // The text of a filing, read and checked, and what is said of it.
 ghost use Rattle.std.specs.Prelude.{◌≡◌};
 ghost use Rattle.filed.specs.Filed.{verdict_on_paper};
+ghost use Rattle.filed.specs.Parts.{checked_program};
 ghost use Rattle.filed.specs.Said.{checked_text, line_of};
-ghost use Rattle.text.specs.Text.{Text};
+ghost use Rattle.text.specs.Line.{said_line};
 
 use crate::Verdict;
-use crate::against::{WRONG_COUNT, against_account, own_refusal};
-use rules::Fault;
+use crate::against::{WRONG_COUNT, against_account};
+use rules::{Refusal, Refused};
 use text::Said;
 
+const MOST_BYTES: usize = 65_536;
+
+// "Program only: input over 65,536 bytes", with place 0.
+const TOO_LONG: Refused = Refused {
+    refusal: Refusal::TooLong,
+    place: 0,
+};
+
 // The file first, then the text, then its rows. No account has more than 336 cells, so that a text with more is not kept whole.
-pub fn check_text(file: &[u8], text: &[u8]) -> Verdict
+fn check_text(file: &[u8], text: &[u8]) -> Result<Verdict, Refused>
     ensures { verdict_on_paper result ≡ checked_text file.now text.now }
 {
-    let w = walk::walk_unlent(file);
-    let a = w.answer;
-    if a.number != 0 {
-        return own_refusal(a);
-    }
-    let table = w.rows;
+    let w = walk::walk_unlent(file)?;
     let mut rows = [0u64; 336];
     let t = filing::read_filing(text, &mut rows);
-    if t.number != 0 {
-        return Verdict::Refused(Fault {
-            number: t.number,
-            place: t.line,
-        });
+    let totals = t.totals?;
+    if t.count > rows.len() {
+        return Err(WRONG_COUNT);
     }
-    let n = t.count;
-    if n > 336 {
-        return Verdict::Refused(WRONG_COUNT);
+    against_account(&w, &rows[..t.count], &totals)
+}
+
+// 13 comes before either is looked at.
+pub fn check_program(file: &[u8], text: &[u8]) -> Result<Verdict, Refused>
+    ensures { verdict_on_paper result ≡ checked_program file.now text.now }
+{
+    if file.len() > MOST_BYTES || text.len() > MOST_BYTES {
+        return Err(TOO_LONG);
     }
-    let totals = t.totals;
-    against_account(a, &table, &rows[0..n], &totals)
+    check_text(file, text)
 }
 
 // "yes", "wrong ROW FIELD" or "refused N PLACE".
-pub fn verdict_text(v: Verdict, line: &mut [u8]) -> usize
-    ensures { Text (line_of (verdict_on_paper v)) line.old line.new result }
+pub fn said_of(checked: Result<Verdict, Refused>) -> Said
+    ensures { said_line result ≡ line_of (verdict_on_paper checked) }
 {
-    let s = match v {
-        Verdict::Agrees => Said::Yes,
-        Verdict::Wrong(row, field) => Said::Wrong(row as u64, field as u64),
-        Verdict::Refused(f) => Said::Refused(f.number as u64, f.place as u64),
-    };
-    text::said_text(line, s)
+    match checked {
+        Ok(Verdict::Agrees) => Said::Yes,
+        Ok(Verdict::Wrong(row, field)) => Said::Wrong(row as u64, field as u64),
+        Err(f) => Said::Refused(u64::from(u32::from(f.refusal)), f.place as u64),
+    }
 }

@@ -1,60 +1,63 @@
--- The line of the totals by its numbers: what refuses it, and the answer that it gives. Assumes nothing.
-use mathlib.Core.Path.{◌≡◌, refl, sym, ap, subst, ◌∙◌}
-use mathlib.Core.Bool.{Bool, true, false}
+-- The line of the totals by its numbers: what refuses it, and the totals that it gives. Assumes nothing.
+use mathlib.Core.Path.{◌≡◌, refl, sym, ◌∙◌}
+use mathlib.Core.Bool.{Bool, true, false, true≢false}
 use mathlib.Core.List.{List}
 use Prim.Native.Nat.{ℕ, ◌+◌}
 use native.Mathlib.Numerals.{add-one}
 use native.Mathlib.Omega.{arith}
 use lib.Dec.{eqb}
-use lib.ListN.{length, drop, length-drop}
-use lib.Seq.{take_all}
+use lib.ListN.{length}
 use borrow.Author.Tests.{eq-eqb, ne_eqb}
+use Rattle.std.proofs.Common.{Result, Ok, Err}
+use Rattle.std.specs.Prelude.{◌↔◌}
+use Rattle.std.specs.Result.{IsOk, IfOk, result_or}
 use Rattle.law.specs.Words.{need}
-use Rattle.law.specs.Digits.{line_feed, past}
-use Rattle.filing.specs.declared.Filing.{Filing}
-use Rattle.filing.specs.Filing.{numbers_in, values_in, all_fit, stopped, totals_from}
-use Rattle.filing.specs.Parts.{Found, Lined, Says, Refused, Totalled}
+use Rattle.rules.specs.declared.Refusal.TheVariants.{BadLine, OutOfRange}
+use Rattle.rules.specs.declared.Refused.{Refused}
+use Rattle.rules.specs.Refusals.{told, fault_in}
+use Rattle.filing.specs.Filing.{numbers_in, totals_from, totals_told}
+use Rattle.filing.specs.Parts.{Lined, read_by}
 
-module _ (text : List ℕ) (from line count : ℕ) (totals : List ℕ) (n end : ℕ) (fits : Bool) (l : Lined text from 5 totals n end fits) where
-  abbrev s : List ℕ
-  s = drop from text
+-- an array that is not full, and one that is
+pub not_whole : {D E P : Type 0} (r : Result (List ℕ) D) (f e : E) → Err f ≡ result_or r (Err e) → (IsOk r ↔ P) → (P → ⊥) × (f ≡ e)
+not_whole (Ok x) f e h v = absurd (cc)
+not_whole (Err d) f e h v = (λ p. true≢false (sym (v.1 p)), cc)
 
-  pub totals_not_five : (n ≡ 5 → ⊥) → (r : Filing) → Refused 19 line count r → Totalled text from line count r
-  unfolding totals_from need
-  totals_not_five o r p cells e = subst (Says r) (sym (rw (ne_eqb (numbers_in 5 s) 5 (λ q. o (l.counts ∙ q))))) (p cells e)
+pub whole : {D E P : Type 0} (r : Result (List ℕ) D) (x y : List ℕ) (e : E) → Ok x ≡ result_or r (Err e) → (IsOk r ↔ P) → IfOk r (λ z. z ≡ y) → P × (x ≡ y)
+whole (Ok z) x y e h v q = (v.0 refl, cc)
+whole (Err d) x y e h v q = absurd (cc)
 
-  module _ (five : n ≡ 5) where
-    found : Found text from 5 totals n end fits
-    found = l.found (omega arith)
+module _ (line : ℕ) (text : List ℕ) where
+  abbrev pub Totals : Result (List ℕ) Refused → Type 0
+  Totals r = (cells : List ℕ) → read_by r cells ≡ totals_from line cells text
 
-    is_five : eqb (numbers_in 5 s) 5 ≡ true
-    is_five = eq-eqb (numbers_in 5 s) 5 (sym l.counts ∙ five)
+  abbrev pub malformed : Refused
+  malformed = record { refusal = BadLine; place = line }
 
-    pub totals_not_fit : fits ≡ false → (r : Filing) → Refused 20 line count r → Totalled text from line count r
-    unfolding totals_from need
-    totals_not_fit f r p cells e =
-        let q : all_fit (values_in 5 s) ≡ false = sym found.fit ∙ f in
-        subst (Says r) (sym (rw (is_five, q))) (p cells e)
+  not_five : (numbers_in 5 text ≡ 5 → ⊥) → Totals (Err malformed)
+  unfolding totals_from need read_by told fault_in totals_told
+  not_five o cells = sym (rw (ne_eqb (numbers_in 5 text) 5 o))
 
-    module _ (f : fits ≡ true) where
-      all_fit_here : all_fit (values_in 5 s) ≡ true
-      all_fit_here = sym found.fit ∙ f
+  pub totals_none : numbers_in 5 text ≡ 0 → (r : Result (List ℕ) Refused) → r ≡ Err malformed → Totals r
+  totals_none z r e = rw e (not_five (λ q. omega arith))
 
-      behind : length (past line_feed s) ≡ length (drop end text)
-      behind = ap length (sym found.behind)
+  module _ (totals : List ℕ) (fits : Bool) (rest : List ℕ) (l : Lined 5 text totals fits rest) where
+    pub totals_few : (length totals ≡ 5 → ⊥) → (r : Result (List ℕ) Refused) → r ≡ Err malformed → Totals r
+    totals_few o r e = rw e (not_five (λ q. o (l.counts ∙ q)))
 
-      pub totals_not_last : (end ≡ length text → ⊥) → (r : Filing) → Refused 19 (line + 1) count r → Totalled text from line count r
-      unfolding totals_from need
-      totals_not_last o r p cells e =
-          let q : eqb (length (past line_feed s)) 0 ≡ false =
-          ne_eqb (length (past line_feed s)) 0 (λ z. omega (arith, behind, length-drop end text, l.within)) in
-          subst (Says r) (sym (rw (is_five, all_fit_here, q) (ap (λ (k : ℕ). stopped 19 k cells) (sym (add-one line))))) (p cells e)
+    module _ (five : length totals ≡ 5) where
+      is_five : eqb (numbers_in 5 text) 5 ≡ true
+      is_five = eq-eqb (numbers_in 5 text) 5 (sym l.counts ∙ five)
 
-      pub totals_taken : end ≡ length text → length totals ≡ 5 → Totalled text from line count (record { number = 0; line = 0; count = count; totals = totals })
-      unfolding totals_from need
-      totals_taken o long cells e =
-          let q : eqb (length (past line_feed s)) 0 ≡ true = eq-eqb (length (past line_feed s)) 0 (omega (arith, behind, length-drop end text)) in
-          let v : totals ≡ values_in 5 s = sym (take_all n totals (omega arith)) ∙ found.values f in
-          let on : totals_from line cells s ≡ record { number = 0; line = 0; cells = cells; totals = values_in 5 s } = rw (is_five, all_fit_here, q) in
-          subst (Says (record { number = 0; line = 0; count = count; totals = totals })) (sym on)
-          (record { numbers = refl; lines = refl; counts = e; totals = v })
+      pub totals_over : fits ≡ false → Totals (Err (record { refusal = OutOfRange; place = line }))
+      unfolding totals_from need read_by told fault_in totals_told
+      totals_over f cells = sym (rw (is_five, sym l.fit ∙ f))
+
+      module _ (f : fits ≡ true) where
+        pub totals_not_last : (length rest ≡ 0 → ⊥) → Totals (Err (record { refusal = BadLine; place = line + 1 }))
+        unfolding totals_from need read_by told fault_in totals_told
+        totals_not_last o cells = sym (rw (is_five, sym l.fit ∙ f, sym l.behind, ne_eqb (length rest) 0 o, add-one))
+
+        pub totals_taken : length rest ≡ 0 → (t : List ℕ) → t ≡ totals → Totals (Ok t)
+        unfolding totals_from need read_by told fault_in totals_told
+        totals_taken o t e cells = sym (rw (is_five, sym l.fit ∙ f, sym l.behind, eq-eqb (length rest) 0 o, e, l.values f))

@@ -1,32 +1,25 @@
 -- The numbers of a line, read one by one: what the loop over them holds, and what a number adds to it. Assumes nothing.
 use mathlib.Core.Path.{◌≡◌, refl, sym, ap, subst, ◌∙◌}
-use mathlib.Core.Bool.{Bool, true, false, not, ◌&&◌}
-use mathlib.Core.List.{List, [], ◌∷◌, ◌++◌, append-nil}
-use Prim.Native.Nat.{ℕ, suc, ◌+◌, ◌-◌, ◌*◌, ◌<◌, ◌≤◌, min}
+use mathlib.Core.Bool.{Bool, true, false, ◌&&◌}
+use mathlib.Core.List.{List, [], ◌∷◌, ◌++◌, append_assoc, append-nil}
+use Prim.Native.Nat.{ℕ, suc, ◌+◌, ◌-◌, ◌*◌, ◌<◌, ◌≤◌}
 use native.Mathlib.Omega.{arith}
-use lib.Dec.{ltb}
-use lib.ListN.{length, take, drop, set, length-set}
+use lib.Dec.{ltb, eqb}
+use lib.ListN.{length, length-append}
+use borrow.Author.Tests.{eqb-false}
+use Rattle.std.proofs.Common.{Option, Some, None}
+use Rattle.std.specs.Prelude.{unwrap_or, is_some}
 use Rattle.law.specs.Words.{need, pick}
 use Rattle.law.specs.Digits.{line_feed, up_to, past, value, number_to}
-use Rattle.law.proofs.Tests.{both_true}
-use Rattle.law.proofs.Over.{gather_more}
+use Rattle.law.proofs.Tests.{both_true, false_true}
 use Rattle.filing.specs.Filing.{space, one_more, numbers_in, values_in, filed_limit, all_fit}
-use Rattle.filing.specs.Parts.{kept_of, Next, Lined}
-use Rattle.filing.proofs.Kept.{kept-fits, kept-is}
-
-and_on : (r s t u : Bool) → s ≡ u → (r && (u && t)) ≡ ((r && s) && t)
-and_on true s t u e = ap (λ (b : Bool). b && t) (sym e)
-and_on false s t u e = refl
-
-and_true : (t : Bool) → (t && true) ≡ t
-and_true true = refl
-and_true false = refl
+use Rattle.filing.specs.Parts.{kept, NoNumber, Next, Lined}
 
 -- a line by its first number
 module _ (m : ℕ) (s : List ℕ) where
-  none_first : number_to line_feed s ≡ false → number_to space s ≡ false → numbers_in (suc m) s ≡ 0
+  none_first : NoNumber s → numbers_in (suc m) s ≡ 0
   unfolding numbers_in pick need
-  none_first l f = rw (l, f)
+  none_first n = rw (n.lined, n.spaced)
 
   pub last_first : number_to line_feed s ≡ true → (numbers_in (suc m) s ≡ 1) × (values_in (suc m) s ≡ value (up_to line_feed s) ∷ [])
   unfolding numbers_in values_in pick
@@ -37,120 +30,128 @@ module _ (m : ℕ) (s : List ℕ) where
   unfolding numbers_in values_in pick need
   more_first l f = rw (l, f) (refl, refl)
 
-pub record Numbering (text : List ℕ) (from most : ℕ) (cells : List ℕ) (at count : ℕ) (fits : Bool) : Type 0 where
-  pub left : ℕ
-  pub all : count + left ≡ most
-  pub within : at ≤ length text
-  pub long : length cells ≡ most
-  pub on : from + 2 * count ≤ at
-  pub none : numbers_in left (drop at text) ≡ 0 → numbers_in most (drop from text) ≡ 0
-  pub some : (k : ℕ) → numbers_in left (drop at text) ≡ suc k → numbers_in most (drop from text) ≡ count + suc k
-  pub fit : all_fit (values_in most (drop from text)) ≡ (fits && all_fit (values_in left (drop at text)))
-  pub values : fits ≡ true → values_in most (drop from text) ≡ take count cells ++ values_in left (drop at text)
-  pub behind : past line_feed (drop from text) ≡ past line_feed (drop at text)
+-- a number that is kept is in its range, and is the value
+kept_fits : (x : ℕ) (t : Bool) → ltb x filed_limit ≡ t → is_some (pick t (Some x) None) ≡ t
+unfolding pick
+kept_fits x true e = refl
+kept_fits x false e = refl
 
-pub numbering_start : (text : List ℕ) (from : ℕ) (cells : List ℕ) → from ≤ length text → Numbering text from (length cells) cells from 0 true
-numbering_start text from cells l =
-    record {
-      left = length cells;
+is_kept : (x : ℕ) (t : Bool) → is_some (pick t (Some x) None) ≡ true → unwrap_or (pick t (Some x) None) 0 ≡ x
+unfolding pick
+is_kept x true e = refl
+is_kept x false e = absurd (false_true e)
+
+and_on : (r s t u : Bool) → s ≡ u → (r && (u && t)) ≡ ((r && s) && t)
+and_on true s t u e = ap (λ (b : Bool). b && t) (sym e)
+and_on false s t u e = refl
+
+and_true : (t : Bool) → (t && true) ≡ t
+and_true true = refl
+and_true false = refl
+
+-- a buffer that is not full
+pub not_full : (n most : ℕ) → false ≡ eqb n most → n ≤ most → n < most
+not_full n most e l = let o = eqb-false n most (sym e) in omega arith
+
+pub record Numbering (most : ℕ) (text numbers : List ℕ) (fits : Bool) (rest : List ℕ) : Type 0 where
+  pub left : ℕ
+  pub all : length numbers + left ≡ most
+  pub shorter : length rest + 2 * length numbers ≤ length text
+  pub none : numbers_in left rest ≡ 0 → numbers_in most text ≡ 0
+  pub some : (k : ℕ) → numbers_in left rest ≡ suc k → numbers_in most text ≡ length numbers + suc k
+  pub fit : all_fit (values_in most text) ≡ (fits && all_fit (values_in left rest))
+  pub values : fits ≡ true → values_in most text ≡ numbers ++ values_in left rest
+  pub behind : past line_feed text ≡ past line_feed rest
+
+pub numbering_start : (most : ℕ) (text numbers : List ℕ) → numbers ≡ [] → Numbering most text numbers true text
+numbering_start most text numbers e =
+    rw e
+    (record {
+      left = most;
       all = omega arith;
-      within = l;
-      long = refl;
-      on = omega arith;
-      none = λ e. e;
-      some = λ k e. omega arith;
+      shorter = omega arith;
+      none = λ h. h;
+      some = λ k h. omega arith;
       fit = refl;
       values = λ _. refl;
       behind = refl;
-    }
+    })
 
--- no line of numbers
-none_lined : (text : List ℕ) (from most : ℕ) (cells : List ℕ) → numbers_in most (drop from text) ≡ 0 → Lined text from most cells 0 0 false
-none_lined text from most cells e = record { counts = sym e; few = omega arith; within = omega arith; found = λ h. absurd (omega arith) }
-
-module _ (text : List ℕ) (from most : ℕ) (cells : List ℕ) (at count : ℕ) (fits : Bool) (p : Numbering text from most cells at count fits) where
-  pub too_many : most ≤ count → Lined text from most cells 0 0 false
+module _ (most : ℕ) (text numbers : List ℕ) (fits : Bool) (rest : List ℕ) (p : Numbering most text numbers fits rest) where
+  pub too_many : most ≤ length numbers → numbers_in most text ≡ 0
   unfolding numbers_in
   too_many l =
       let z : p.left ≡ 0 = omega (arith, p.all) in
-      none_lined text from most cells (p.none (ap (λ (k : ℕ). numbers_in k (drop at text)) z))
+      p.none (ap (λ (k : ℕ). numbers_in k rest) z)
 
-  module _ (l : count < most) (v : ℕ) (over : Bool) (end : ℕ) (last : Bool) (n : Next text at (kept_of v over) end last) where
-    abbrev s : List ℕ
-    s = drop at text
-
+  module _ (l : length numbers < most) where
     abbrev m : ℕ
     m = p.left - 1
 
     one : p.left ≡ suc m
     one = omega (arith, p.all)
 
-    -- what is left, by its first number
-    left_values : (r : List ℕ) → values_in (suc m) s ≡ r → values_in p.left s ≡ r
-    left_values r e = ap (λ (k : ℕ). values_in k s) one ∙ e
+    pub malformed : NoNumber rest → numbers_in most text ≡ 0
+    malformed n = p.none (ap (λ (k : ℕ). numbers_in k rest) one ∙ none_first m rest n)
 
-    left_numbers : (r : ℕ) → numbers_in (suc m) s ≡ r → numbers_in p.left s ≡ r
-    left_numbers r e = ap (λ (k : ℕ). numbers_in k s) one ∙ e
+    module _ (v : Option ℕ) (last : Bool) (behind : List ℕ) (n : Next rest v last behind) (y : ℕ) (is : y ≡ unwrap_or v 0) (g : Bool) (fit : g ≡ is_some v)
+        (more : List ℕ) (e : more ≡ numbers ++ (y ∷ [])) where
+      -- what is left, by its first number
+      left_values : (r : List ℕ) → values_in (suc m) rest ≡ r → values_in p.left rest ≡ r
+      left_values r h = ap (λ (k : ℕ). values_in k rest) one ∙ h
 
-    -- one number more in the cells, of a value that is kept
-    module _ (b : v < filed_limit) (x : ℕ) (r : List ℕ) (is : kept_of v over ≡ min x filed_limit) (e : values_in (suc m) s ≡ x ∷ r) where
-      fit_on : all_fit (values_in most (drop from text)) ≡ ((fits && not over) && all_fit r)
-      unfolding all_fit
-      fit_on =
-          p.fit ∙ ap (λ (t : List ℕ). fits && all_fit t) (left_values (x ∷ r) e)
-          ∙ and_on fits (not over) (all_fit r) (ltb x filed_limit) (kept-fits v over x b is)
+      left_numbers : (r : ℕ) → numbers_in (suc m) rest ≡ r → numbers_in p.left rest ≡ r
+      left_numbers r h = ap (λ (k : ℕ). numbers_in k rest) one ∙ h
 
-      values_on : (fits && not over) ≡ true → values_in most (drop from text) ≡ take (count + 1) (set cells count v) ++ r
-      values_on q =
-          let k = both_true fits (not over) q in
-          let first : values_in p.left s ≡ v ∷ r = left_values (x ∷ r) e ∙ ap (λ (y : ℕ). y ∷ r) (kept-is v over x b is k.1) in
-          p.values k.0 ∙ sym (gather_more cells (values_in p.left s) r count v (omega (arith, p.long)) first)
+      long : length more ≡ length numbers + 1
+      long = ap length e ∙ length-append numbers (y ∷ [])
 
-    pub malformed : end ≡ 0 → Lined text from most cells 0 0 false
-    unfolding pick
-    malformed z = none_lined text from most cells (p.none (left_numbers 0 (go last (subst (λ (e : ℕ). Next text at (kept_of v over) e last) z n))))
-      where
-        go : (b : Bool) → Next text at (kept_of v over) 0 b → numbers_in (suc m) s ≡ 0
-        go true x = none_first m s (x.lined.none refl) (x.spaced.none refl)
-        go false x = none_first m s (x.lined.none refl) (x.spaced.none refl)
+      -- one number more, of a value that is kept
+      module _ (x : ℕ) (r : List ℕ) (k : v ≡ kept x) (h : values_in (suc m) rest ≡ x ∷ r) where
+        fit_on : all_fit (values_in most text) ≡ ((fits && g) && all_fit r)
+        unfolding all_fit kept
+        fit_on =
+            p.fit ∙ ap (λ (t : List ℕ). fits && all_fit t) (left_values (x ∷ r) h)
+            ∙ and_on fits g (all_fit r) (ltb x filed_limit) (fit ∙ ap is_some k ∙ kept_fits x (ltb x filed_limit) refl)
 
-    module _ (b : v < filed_limit) (g : end ≡ 0 → ⊥) where
-      pub last_lined : last ≡ true → Lined text from most (set cells count v) (count + 1) end (fits && not over)
+        values_on : (fits && g) ≡ true → values_in most text ≡ more ++ r
+        unfolding kept
+        values_on q =
+            let b = both_true fits g q in
+            let first : y ≡ x = is ∙ ap (λ (o : Option ℕ). unwrap_or o 0) k ∙ is_kept x (ltb x filed_limit) (ap is_some (sym k) ∙ sym fit ∙ b.1) in
+            p.values b.0 ∙ ap (λ (t : List ℕ). numbers ++ t) (left_values (y ∷ r) (h ∙ ap (λ (z : ℕ). z ∷ r) (sym first)))
+            ∙ sym (append_assoc numbers (y ∷ []) r) ∙ ap (λ (t : List ℕ). t ++ r) (sym e)
+
+      pub last_lined : last ≡ true → Lined most text more (fits && g) behind
       unfolding pick all_fit
       last_lined t =
-          let f = (subst (Next text at (kept_of v over) end) t n).lined.some (omega arith) in
-          let h = last_first m s f.0 in
+          let z = subst (λ (b : Bool). Next rest v b behind) t n in
+          let h = last_first m rest z.lined in
           record {
-            counts = sym (p.some 0 (left_numbers 1 h.0));
-            few = omega arith;
-            within = f.1.within;
-            found = λ _. record {
-              fit = sym (fit_on b (value (up_to line_feed s)) [] f.1.is h.1 ∙ and_true _);
-              values = λ q. sym (values_on b (value (up_to line_feed s)) [] f.1.is h.1 q ∙ append-nil _);
-              behind = f.1.behind ∙ sym p.behind;
-              on = omega (arith, p.on, f.1.on);
-            };
+            counts = long ∙ sym (p.some 0 (left_numbers 1 h.0));
+            some = omega (arith, long);
+            fit = sym (fit_on (value (up_to line_feed rest)) [] z.is h.1 ∙ and_true _);
+            values = λ q. sym (values_on (value (up_to line_feed rest)) [] z.is h.1 q ∙ append-nil _);
+            behind = z.behind ∙ sym p.behind;
+            shorter = omega (arith, long, z.shorter, p.shorter);
           }
 
-      pub numbering_on : last ≡ false → Numbering text from most (set cells count v) end (count + 1) (fits && not over)
+      pub numbering_on : last ≡ false → Numbering most text more (fits && g) behind
       unfolding pick one_more
       numbering_on t =
-          let x = subst (Next text at (kept_of v over) end) t n in
-          let f = x.spaced.some (omega arith) in
-          let h = more_first m s (x.lined.none refl) f.0 in
-          let numbers : numbers_in p.left s ≡ one_more (numbers_in m (drop end text)) =
-          left_numbers _ h.0 ∙ ap (λ (r : List ℕ). one_more (numbers_in m r)) (sym f.1.behind) in
-          let vals : values_in (suc m) s ≡ value (up_to space s) ∷ values_in m (drop end text) =
-          h.1 ∙ ap (λ (r : List ℕ). value (up_to space s) ∷ values_in m r) (sym f.1.behind) in
+          let z = subst (λ (b : Bool). Next rest v b behind) t n in
+          let h = more_first m rest z.lined (z.spaced refl) in
+          let numbers_left : numbers_in p.left rest ≡ one_more (numbers_in m behind) =
+          left_numbers _ h.0 ∙ ap (λ (r : List ℕ). one_more (numbers_in m r)) (sym z.behind) in
+          let values_left : values_in (suc m) rest ≡ value (up_to space rest) ∷ values_in m behind =
+          h.1 ∙ ap (λ (r : List ℕ). value (up_to space rest) ∷ values_in m r) (sym z.behind) in
           record {
             left = m;
-            all = omega (arith, p.all);
-            within = f.1.within;
-            long = length-set cells count v ∙ p.long;
-            on = omega (arith, p.on, f.1.on);
-            none = λ e. p.none (numbers ∙ ap one_more e);
-            some = λ k e. p.some (suc k) (numbers ∙ ap one_more e) ∙ (let z : count + suc (suc k) ≡ count + 1 + suc k = omega arith in z);
-            fit = fit_on b (value (up_to space s)) (values_in m (drop end text)) f.1.is vals;
-            values = values_on b (value (up_to space s)) (values_in m (drop end text)) f.1.is vals;
-            behind = p.behind ∙ x.line (omega arith) refl;
+            all = omega (arith, p.all, long);
+            shorter = omega (arith, long, z.shorter, p.shorter);
+            none = λ q. p.none (numbers_left ∙ ap one_more q);
+            some = λ k q. p.some (suc k) (numbers_left ∙ ap one_more q) ∙ (let s : length numbers + suc (suc k) ≡ length more + suc k = omega (arith, long) in s);
+            fit = fit_on (value (up_to space rest)) (values_in m behind) z.is values_left;
+            values = values_on (value (up_to space rest)) (values_in m behind) z.is values_left;
+            behind = p.behind ∙ z.line refl;
           }

@@ -1,42 +1,44 @@
 -- A text read line by line: what the loop over its lines holds, what a row adds to it, and the promise at its ends. Assumes nothing.
 use mathlib.Core.Path.{◌≡◌, refl, sym, ap, ap₂, ◌∙◌}
-use mathlib.Core.Bool.{Bool, true, false}
+use mathlib.Core.Bool.{Bool, true, false, true≢false}
 use mathlib.Core.List.{List, [], ◌++◌}
-use Prim.Native.Nat.{ℕ, zero, suc, ◌+◌, ◌-◌, ◌*◌, ◌<◌, ◌≤◌}
+use Prim.Native.Nat.{ℕ, zero, suc, ◌+◌, ◌-◌, ◌*◌, ◌≤◌}
 use native.Mathlib.Numerals.{add-one}
 use native.Mathlib.Omega.{arith}
 use lib.Dec.{eqb}
-use lib.ListN.{length, take, drop, length-append, length-drop, drop_of_length-le}
-use lib.Seq.{drop-drop}
+use lib.ListN.{length, take, drop, length-append}
+use Rattle.std.proofs.Common.{Result, Err}
+use Rattle.std.specs.Cmp.Lexicographic.{pointwise}
 use Rattle.law.specs.Words.{need, pick}
-use Rattle.law.specs.Digits.{line_feed, past, has, number_to}
-use Rattle.law.proofs.Tests.{need_case}
-use Rattle.filing.specs.declared.Filing.{Filing}
-use Rattle.filing.specs.Filing.{total_word, starts_with, numbers_in, values_in, all_fit, is_row, Read, stopped, totals_from, read_from, read_of, Promise}
-use Rattle.filing.specs.Parts.{held, RowRead, Says, Refused, Totalled}
-use Rattle.filing.proofs.Starts.{starts_long}
+use Rattle.law.specs.Digits.{has, number_to}
+use Rattle.rules.proofs.Refusals.{numbered}
+use Rattle.rules.specs.Refusals.{number_of, told, fault_in}
+use Rattle.rules.specs.declared.Refusal.{Refusal}
+use Rattle.rules.specs.declared.Refused.{Refused}
+use Rattle.filing.specs.Filing.{total_word, starts_with, numbers_in, values_in, all_fit, is_row, Read, stopped, totals_from, read_from, read_of, totals_told, filing_on_paper, Promise}
+use Rattle.filing.specs.Parts.{held, RowTaken, RowRefused, read_by}
+use Rattle.filing.proofs.Starts.{strip_is}
+use Rattle.filing.proofs.Next.{length_none}
 use Rattle.filing.proofs.Held.{held_none, held_on}
 
-pub record Reading (text rows rows' : List ℕ) (at line count : ℕ) : Type 0 where
+pub record Reading (text rows rows' rest : List ℕ) (line count : ℕ) : Type 0 where
   pub most : ℕ
   pub cells : List ℕ
-  pub wide : length text ≤ at + most
-  pub within : at ≤ length text
-  pub left : read_of text ≡ read_from most line cells (drop at text)
+  pub wide : length rest ≤ most
+  pub left : read_of text ≡ read_from most line cells rest
   pub many : count ≡ length cells
-  pub few : 2 * count ≤ at
-  pub lines : line ≤ at + 1
+  pub few : 2 * count + length rest ≤ length text
+  pub lines : line + length rest ≤ length text + 1
   pub holds : rows' ≡ held rows cells
   pub long : length rows' ≡ length rows
 
-pub reading-start : (text rows : List ℕ) → Reading text rows rows 0 1 0
+pub reading-start : (text rows : List ℕ) → Reading text rows rows text 1 0
 unfolding read_of
 reading-start text rows =
     record {
       most = length text;
       cells = [];
       wide = omega arith;
-      within = omega arith;
       left = refl;
       many = refl;
       few = omega arith;
@@ -46,104 +48,76 @@ reading-start text rows =
     }
 
 -- the promise, where what is read is known
-promised : (text rows rows' : List ℕ) (r : Filing) (w : Read) → read_of text ≡ w → Says r w → rows' ≡ held rows w.cells → Promise text rows r rows'
-promised text rows rows' r w e s h =
+promised : (text rows rows' cells : List ℕ) (count : ℕ) (totals : Result (List ℕ) Refused) → read_of text ≡ read_by totals cells → count ≡ length cells
+    → rows' ≡ held rows cells → Promise text rows (filing_on_paper (record { count = count; totals = totals })) rows'
+unfolding filing_on_paper read_by
+promised text rows rows' cells count totals e c h =
     record {
-      numbers = s.numbers ∙ ap (λ (v : Read). v.number) (sym e);
-      lines = s.lines ∙ ap (λ (v : Read). v.line) (sym e);
-      counts = s.counts ∙ ap (λ (v : Read). length v.cells) (sym e);
-      totals = s.totals ∙ ap (λ (v : Read). v.totals) (sym e);
+      numbers = ap (λ (v : Read). v.number) (sym e);
+      lines = ap (λ (v : Read). v.line) (sym e);
+      counts = c ∙ ap (λ (v : Read). length v.cells) (sym e);
+      totals = ap (λ (v : Read). v.totals) (sym e);
       leaves = h ∙ ap (λ (v : Read). held rows v.cells) (sym e);
     }
 
--- behind the totals the cells are those before
-totals_cells : (line : ℕ) (cells s : List ℕ) → (totals_from line cells s).cells ≡ cells
-unfolding totals_from
-totals_cells line cells s =
-    need_case same _ (eqb (numbers_in 5 s) 5) _ (λ _. refl)
-    (λ _. need_case same _ (all_fit (values_in 5 s)) _ (λ _. refl) (λ _. need_case same _ (eqb (length (past line_feed s)) 0) _ (λ _. refl) (λ _. refl)))
-  where
-    same : Read → Type 0
-    same w = w.cells ≡ cells
+-- nothing is left: no row
+row_of_none : is_row [] ≡ false
+unfolding is_row numbers_in pick need number_to has
+row_of_none = refl
 
--- nothing is left
-none_left : (most line : ℕ) (cells : List ℕ) → read_from most line cells [] ≡ stopped 19 line cells
-unfolding read_from pick need starts_with is_row numbers_in number_to has
-none_left zero line cells = refl
-none_left (suc most) line cells = refl
-
-module _ (text rows rows' : List ℕ) (at line count : ℕ) (p : Reading text rows rows' at line count) where
-  abbrev s : List ℕ
-  s = drop at text
-
-  pub at-end : length text ≤ at → (r : Filing) → Refused 19 line count r → Promise text rows r rows'
-  at-end l r f =
-      promised text rows rows' r _ (p.left ∙ ap (read_from p.most line p.cells) (drop_of_length-le text {i = at} l) ∙ none_left p.most line p.cells)
-      (f p.cells p.many) p.holds
-
-  module _ (l : at < length text) (t : Bool) (starts : t ≡ starts_with total_word s) where
-    abbrev m : ℕ
-    m = p.most - 1
-
-    one : p.most ≡ suc m
-    one = omega (arith, p.wide)
-
-    left_one : read_of text ≡ read_from (suc m) line p.cells s
-    left_one = p.left ∙ ap (λ (k : ℕ). read_from k line p.cells s) one
-
-    pub word_fits : t ≡ true → at + 6 ≤ length text
-    word_fits e = omega (arith, starts_long total_word s (sym starts ∙ e), length-drop at text)
-
-    pub totals_end : t ≡ true → (r : Filing) → Totalled text (at + 6) line count r → Promise text rows r rows'
+module _ (text rows rows' rest : List ℕ) (line count : ℕ) (p : Reading text rows rows' rest line count) where
+  -- the word of the totals
+  module _ (figures : List ℕ) (t : pointwise eqb (take 6 rest) total_word ≡ true) (behind : figures ≡ drop 6 rest) (long : length figures + 6 ≡ length rest) where
+    pub totals_end : (totals : Result (List ℕ) Refused) → ((cells : List ℕ) → read_by totals cells ≡ totals_from line cells figures)
+        → Promise text rows (filing_on_paper (record { count = count; totals = totals })) rows'
     unfolding read_from pick
-    totals_end e r f =
-        let u = drop (at + 6) text in
-        let on : read_of text ≡ totals_from line p.cells u = left_one ∙ rw (sym starts ∙ e) (ap (totals_from line p.cells) (drop-drop 6 at text)) in
-        promised text rows rows' r _ on (f p.cells p.many) (p.holds ∙ ap (held rows) (sym (totals_cells line p.cells u)))
+    totals_end totals h =
+        let one : p.most ≡ suc (p.most - 1) = omega (arith, p.wide) in
+        let word : starts_with total_word rest ≡ true = sym (strip_is total_word rest) ∙ t in
+        let on : read_of text ≡ totals_from line p.cells (drop 6 rest) =
+        p.left ∙ ap (λ (k : ℕ). read_from k line p.cells rest) one ∙ rw word in
+        promised text rows rows' p.cells count totals (on ∙ ap (totals_from line p.cells) (sym behind) ∙ sym (h p.cells)) p.many p.holds
 
-    module _ (f : t ≡ false) (before number many end : ℕ) (rows'' : List ℕ) (w : RowRead text at before rows' rows'' number many end) where
-      -- behind the row, if neither test refuses it
-      abbrev after : Read
-      after = read_from m (suc line) (p.cells ++ values_in 7 s) (past line_feed s)
+  -- no word of the totals
+  module _ (t : pointwise eqb (take 6 rest) total_word ≡ false) where
+    word : starts_with total_word rest ≡ false
+    word = sym (strip_is total_word rest) ∙ t
 
-      abbrev judged : Bool → Bool → Read
-      judged a b = need (stopped 19 line p.cells) a (need (stopped 20 line p.cells) b after)
+    pub row-refused : (f : Refusal) → RowRefused rest f
+        → Promise text rows (filing_on_paper (record { count = count; totals = Err (record { refusal = f; place = line }) })) rows'
+    unfolding read_from pick need read_by told fault_in totals_told
+    row-refused f r = promised text rows rows' p.cells count _ (p.left ∙ go p.most p.wide) p.many p.holds
+      where
+        by : (x : Read) (a b : Bool) → number_of f ≡ need 19 a (need 20 b 0) → need (stopped 19 line p.cells) a (need (stopped 20 line p.cells) b x) ≡ stopped (number_of f) line p.cells
+        by x false b e = ap (λ (k : ℕ). stopped k line p.cells) (sym e)
+        by x true false e = ap (λ (k : ℕ). stopped k line p.cells) (sym e)
+        by x true true e = absurd (true≢false (sym (ap (λ (k : ℕ). eqb k 0) e) ∙ numbered f))
 
-      left_row : read_of text ≡ judged (is_row s) (all_fit (values_in 7 s))
-      unfolding read_from pick
-      left_row = left_one ∙ rw (sym starts ∙ f)
+        go : (k : ℕ) → length rest ≤ k → read_from k line p.cells rest ≡ stopped (number_of f) line p.cells
+        go zero l =
+            let none : is_row rest ≡ false = ap is_row (length_none rest (omega arith)) ∙ row_of_none in
+            ap (λ (k : ℕ). stopped k line p.cells) (sym (r ∙ rw none))
+        go (suc k) l = rw word (by _ (is_row rest) (all_fit (values_in 7 rest)) r)
 
-      pub row-refused : 0 < number → (r : Filing) → Refused number line count r → Promise text rows r rows''
-      unfolding need
-      row-refused g r h =
-          promised text rows rows'' r _ (left_row ∙ go (is_row s) (all_fit (values_in 7 s)) w.numbers) (h p.cells p.many) (w.refused g ∙ p.holds)
-        where
-          go : (a b : Bool) → number ≡ need 19 a (need 20 b 0) → judged a b ≡ stopped number line p.cells
-          go false b e = ap (λ (k : ℕ). stopped k line p.cells) (sym e)
-          go true false e = ap (λ (k : ℕ). stopped k line p.cells) (sym e)
-          go true true e = absurd (omega arith)
-
-      pub row_on : number ≡ 0 → before ≡ count → length rows'' ≡ length rows' → Reading text rows rows'' end (line + 1) (count + many)
-      unfolding need
-      row_on z b long =
-          let x = w.taken z in
+    module _ (numbers behind : List ℕ) (w : RowTaken rest numbers behind) where
+      pub row_on : (rows'' row : List ℕ) (n : ℕ) → row ≡ numbers → n ≡ length numbers → rows'' ≡ take count rows' ++ held (drop count rows') row
+          → length rows'' ≡ length rows' → Reading text rows rows'' behind (line + 1) (count + n)
+      unfolding read_from pick need
+      row_on rows'' row n is many put long =
           let c = p.cells in
-          let next : read_of text ≡ after = left_row ∙ go (is_row s) (all_fit (values_in 7 s)) w.numbers in
+          let one : p.most ≡ suc (p.most - 1) = omega (arith, p.wide, w.shorter, w.some) in
+          let next : read_of text ≡ read_from (p.most - 1) (line + 1) (c ++ numbers) behind =
+          p.left ∙ ap (λ (k : ℕ). read_from k line c rest) one ∙ rw (word, w.row, w.fit, sym w.values, sym w.behind, add-one) in
           record {
-            most = m;
-            cells = c ++ values_in 7 s;
-            wide = omega (arith, p.wide, x.on, x.some);
-            within = x.within;
-            left = next ∙ ap₂ (λ (k : ℕ) (u : List ℕ). read_from m k (c ++ values_in 7 s) u) (sym (add-one line)) (sym x.behind);
-            many = omega (arith, p.many, x.counts, length-append c (values_in 7 s));
-            few = omega (arith, p.few, x.on);
-            lines = omega (arith, p.lines, x.on, x.some);
+            most = p.most - 1;
+            cells = c ++ numbers;
+            wide = omega (arith, p.wide, w.shorter, w.some);
+            left = next;
+            many = omega (arith, p.many, length-append c numbers);
+            few = omega (arith, p.few, w.shorter);
+            lines = omega (arith, p.lines, w.shorter, w.some);
             holds =
-                x.holds ∙ ap₂ (λ (u : List ℕ) (k : ℕ). take k u ++ held (drop k u) (values_in 7 s)) p.holds (b ∙ p.many) ∙ held_on rows c (values_in 7 s);
+                put ∙ ap (λ (r : List ℕ). take count rows' ++ held (drop count rows') r) is ∙ ap₂ (λ (u : List ℕ) (k : ℕ). take k u ++ held (drop k u) numbers) p.holds p.many
+                ∙ held_on rows c numbers;
             long = long ∙ p.long;
           }
-        where
-          go : (a b : Bool) → number ≡ need 19 a (need 20 b 0) → judged a b ≡ after
-          go false b e = absurd (omega arith)
-          go true false e = absurd (omega arith)
-          go true true e = refl

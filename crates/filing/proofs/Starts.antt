@@ -1,15 +1,14 @@
--- A word at a place of a text, byte by byte. Assumes nothing.
-use mathlib.Core.Path.{◌≡◌, sym, ap, ap₂, ◌∙◌}
-use mathlib.Core.Bool.{true, false, ◌&&◌}
+-- The word of the totals at the start of a text, as std's methods of slices have it. Assumes nothing.
+use mathlib.Core.Path.{◌≡◌, refl, sym, ap, ap₂}
+use mathlib.Core.Bool.{Bool, true, false, ◌&&◌}
 use mathlib.Core.List.{List, [], ◌∷◌}
-use Prim.Native.Nat.{ℕ, ◌+◌, ◌<◌, ◌≤◌}
-use native.Mathlib.Nat.{add-zero}
+use Prim.Native.Nat.{ℕ, ◌≤◌}
 use native.Mathlib.Omega.{arith}
 use lib.Dec.{eqb}
-use lib.ListN.{length, drop, get_or, drop_of_length-le}
-use borrow.Author.Tests.{eq-eqb, ne_eqb}
+use lib.ListN.{length, take}
+use borrow.Author.Tests.{eq-eqb, ne_eqb, eqb-true, eqb-false}
+use Rattle.std.specs.Cmp.Lexicographic.{pointwise}
 use Rattle.law.proofs.Tests.{both_true, false_true}
-use Rattle.law.proofs.Digits.{byte_at}
 use Rattle.filing.specs.Filing.{starts_with}
 
 -- a text that starts with a word is as long at least
@@ -19,36 +18,20 @@ starts_long [] s e = omega arith
 starts_long (w ∷ ws) [] e = absurd (false_true e)
 starts_long (w ∷ ws) (b ∷ bs) e = omega (arith, starts_long ws bs (both_true (eqb b w) _ e).1)
 
-module _ (text : List ℕ) (from : ℕ) (word : List ℕ) where
-  -- what is left of the word against what is left of the text is the whole
-  pub record Matching (i : ℕ) : Type 0 where
-    pub most : i ≤ length word
-    pub left : starts_with word (drop from text) ≡ starts_with (drop i word) (drop (from + i) text)
+-- `strip_prefix`
+pub strip_is : (word s : List ℕ) → pointwise eqb (take (length word) s) word ≡ starts_with word s
+unfolding starts_with
+strip_is [] s = refl
+strip_is (w ∷ ws) [] = refl
+strip_is (w ∷ ws) (b ∷ bs) = ap (λ (t : Bool). eqb b w && t) (strip_is ws bs)
 
-  pub matching_start : Matching 0
-  matching_start = record { most = omega arith; left = ap (λ (k : ℕ). starts_with word (drop k text)) (sym (add-zero from)) }
+-- `starts_with`
+turned : (a b : ℕ) (t : Bool) → eqb b a ≡ t → eqb a b ≡ t
+turned a b true e = eq-eqb a b (sym (eqb-true b a e))
+turned a b false e = ne_eqb a b (λ q. eqb-false b a e (sym q))
 
-  module _ (i : ℕ) (m : Matching i) where
-    pub matched : length word ≤ i → true ≡ starts_with word (drop from text)
-    unfolding starts_with
-    matched l = sym (m.left ∙ rw (drop_of_length-le word {i = i} l))
-
-    pub too_short : i < length word → length text ≤ from + i → false ≡ starts_with word (drop from text)
-    unfolding starts_with
-    too_short l h = sym (m.left ∙ rw (byte_at word i l, drop_of_length-le text {i = from + i} h))
-
-    module _ (l : i < length word) (h : from + i < length text) where
-      step : starts_with word (drop from text) ≡ (eqb (get_or text (from + i) 0) (get_or word i 0) && starts_with (drop (i + 1) word) (drop (from + i + 1) text))
-      unfolding starts_with
-      step = m.left ∙ ap₂ starts_with (byte_at word i l) (byte_at text (from + i) h)
-
-      pub other : (get_or text (from + i) 0 ≡ get_or word i 0 → ⊥) → false ≡ starts_with word (drop from text)
-      other n = sym (step ∙ rw (ne_eqb (get_or text (from + i) 0) (get_or word i 0) n))
-
-      pub matching_on : get_or text (from + i) 0 ≡ get_or word i 0 → Matching (i + 1)
-      matching_on e =
-          let k : from + i + 1 ≡ from + (i + 1) = omega arith in
-          record {
-            most = omega arith;
-            left = step ∙ rw (eq-eqb (get_or text (from + i) 0) (get_or word i 0) e) (ap (λ (j : ℕ). starts_with (drop (i + 1) word) (drop j text)) k);
-          }
+pub starts_is : (word s : List ℕ) → pointwise eqb word (take (length word) s) ≡ starts_with word s
+unfolding starts_with
+starts_is [] s = refl
+starts_is (w ∷ ws) [] = refl
+starts_is (w ∷ ws) (b ∷ bs) = ap₂ (λ (x y : Bool). x && y) (turned w b (eqb b w) refl) (starts_is ws bs)

@@ -1,10 +1,12 @@
 -- The text of a filing, in the form that `account` prints: rows of seven numbers, a space between two, each row a line; then "total " and five numbers. A last
 -- row may be short: it is no row, and the count of rows is then wrong (22).
-use Rattle.std.specs.Prelude.{ℕ, zero, suc, Bool, true, false, ◌&&◌, ◌||◌, List, [], ◌∷◌, ◌++◌, ◌≡◌, length, take, drop, replicate, leb, ltb, eqb}
+use Rattle.std.specs.Prelude.{ℕ, zero, suc, Bool, true, false, ◌&&◌, ◌||◌, List, [], ◌∷◌, ◌++◌, ◌≡◌, length, take, drop, replicate, leb, ltb, eqb, Result, Ok, Err}
 use Rattle.law.specs.Numbers.{row_cells, total_cells}
 use Rattle.law.specs.Words.{need, pick}
 use Rattle.law.specs.Digits.{line_feed, up_to, past, value, number_to}
-use Rattle.filing.specs.declared.Filing.{Filing}
+use Rattle.rules.specs.Refusals.{told}
+use Rattle.rules.specs.declared.Refused.{Refused}
+use Rattle.filing.specs.declared.Filing.{Filing as Answered}
 
 abbrev pub space : ℕ
 space = 32
@@ -75,6 +77,21 @@ read_from (suc most) line cells s =
 
 unfoldable pub read_of : List ℕ → Read
 read_of text = read_from (length text) 1 [] text
+
+-- an answer as the document would write it down: number and line of what refuses the text, both 0 where nothing does; how many cells its rows have, and its
+-- totals, of a refused text zeros
+pub record Filing : Type 0 where
+  pub number : ℕ
+  pub line : ℕ
+  pub count : ℕ
+  pub totals : List ℕ
+
+unfoldable pub totals_told : Result (List ℕ) Refused → List ℕ
+totals_told (Ok totals) = totals
+totals_told (Err f) = replicate total_cells 0
+
+unfoldable pub filing_on_paper : Answered → Filing
+filing_on_paper a = record { number = (told a.totals).number; line = (told a.totals).place; count = a.count; totals = totals_told a.totals }
 
 -- the promise of `read_filing`: the answer, and the lent cells, of which the first hold the rows as far as there is room, and the others stay
 pub record Promise (text rows : List ℕ) (answer : Filing) (rows' : List ℕ) : Type 0 where

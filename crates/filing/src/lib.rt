@@ -6,39 +6,52 @@ mod numbers;
 mod rows;
 mod totals;
 
-ghost use Rattle.filing.specs.Filing.{Promise};
+ghost use Rattle.filing.specs.Filing.{filing_on_paper, Promise};
 
-use crate::lines::starts_with;
-use crate::rows::row_at;
-use crate::totals::{refused, totals_at};
+use crate::rows::{put_row, row_of};
+use crate::totals::totals_of;
+use rules::Refused;
 
-// Number and line of what refuses the text, both 0 where nothing does; how many cells its rows have, and its totals.
-#[derive(Clone, Copy)]
+// How many cells the rows of a text have; and its totals, or what refuses the text, with its line.
+#[derive(Clone, Copy, Debug, PartialEq, Eq)]
 pub struct Filing {
-    pub number: u32,
-    pub line: usize,
     pub count: usize,
-    pub totals: [u64; 5],
+    pub totals: Result<[u64; 5], Refused>,
 }
+
+// The word of the totals.
+const TOTAL: &[u8] = b"total ";
 
 // A text's rows, put into the lent cells as far as there is room, line after line up to the totals or to what is refused.
 pub fn read_filing(text: &[u8], rows: &mut [u64]) -> Filing
-    ensures { Promise text.now rows.old result rows.new }
+    ensures { Promise text.now rows.old (filing_on_paper result) rows.new }
 {
-    let mut at: usize = 0;
+    let mut rest = text;
     let mut line: usize = 1;
     let mut count: usize = 0;
-    while at < text.len() {
-        if starts_with(text, at, b"total ") {
-            return totals_at(text, at + 6, line, count);
+    loop {
+        if let Some(figures) = rest.strip_prefix(TOTAL) {
+            return Filing {
+                count,
+                totals: totals_of(figures, line),
+            };
         }
-        let r = row_at(text, at, count, rows);
-        if r.number > 0 {
-            return refused(r.number, line, count);
+        match row_of(rest) {
+            Ok(row) => {
+                put_row(&row.numbers, count, rows);
+                count += row.numbers.len();
+                line += 1;
+                rest = row.rest;
+            }
+            Err(refusal) => {
+                return Filing {
+                    count,
+                    totals: Err(Refused {
+                        refusal,
+                        place: line,
+                    }),
+                };
+            }
         }
-        count += r.count;
-        line += 1;
-        at = r.end;
     }
-    refused(19, line, count)
 }

@@ -1,66 +1,38 @@
-// One line: the word that it starts with, and its numbers.
-ghost use Rattle.std.specs.Prelude.{◌≡◌, ◌≤◌, length, drop};
-ghost use Rattle.filing.specs.Filing.{starts_with};
+// The numbers of a line.
+ghost use Rattle.std.specs.Prelude.{◌≡◌, MatchOption};
+ghost use Rattle.filing.specs.Filing.{numbers_in};
 ghost use Rattle.filing.specs.Parts.{Lined};
 
 use crate::numbers::next_number;
+use arrayvec::ArrayVec;
 
-// How many numbers a line has, the place behind it, and whether all are in their range; where it is no line of numbers, the count is 0.
-#[derive(Clone, Copy)]
-pub struct Line {
-    pub count: usize,
-    pub end: usize,
+// The numbers of a line, whether all are in their range, and what stands behind the line.
+#[derive(Drop)]
+pub struct Line<'a, const N: usize> {
+    pub numbers: ArrayVec<u64, N>,
     pub fits: bool,
+    pub rest: &'a [u8],
 }
 
-const NONE: Line = Line {
-    count: 0,
-    end: 0,
-    fits: false,
-};
-
-// Whether a word stands at a place of the text.
-pub fn starts_with(text: &[u8], from: usize, word: &[u8]) -> bool
-    requires { from ≤ length text.now }
-    ensures { result ≡ starts_with word.now (drop from text.now) }
+// The first line of a text, if it is a line of one to N numbers.
+pub fn line_of<const N: usize>(text: &[u8]) -> Option<Line<'_, N>>
+    ensures { MatchOption result (numbers_in N text.now ≡ 0) (λ l. Lined N text.now l.numbers.items l.fits l.rest.now) }
 {
-    let mut i: usize = 0;
-    while i < word.len() {
-        if i >= text.len() - from {
-            return false;
-        }
-        if text[from + i] != word[i] {
-            return false;
-        }
-        i += 1;
-    }
-    true
-}
-
-// The numbers of the line from a place on, into the lent cells: no more than there are cells.
-pub fn numbers_at(text: &[u8], from: usize, cells: &mut [u64]) -> Line
-    requires { from ≤ length text.now }
-    ensures { Lined text.now from (length cells.old) cells.new result.count result.end result.fits }
-{
-    let mut at = from;
-    let mut count: usize = 0;
+    let mut rest = text;
+    let mut numbers = ArrayVec::new();
     let mut fits = true;
-    while count < cells.len() {
-        let n = next_number(text, at);
-        if n.end == 0 {
-            return NONE;
-        }
-        cells[count] = n.value;
-        count += 1;
-        fits = fits & !n.over;
+    while !numbers.is_full() {
+        let n = next_number(rest)?;
+        numbers.push(n.value.unwrap_or(0));
+        fits &= n.value.is_some();
+        rest = n.rest;
         if n.last {
-            return Line {
-                count,
-                end: n.end,
+            return Some(Line {
+                numbers,
                 fits,
-            };
+                rest,
+            });
         }
-        at = n.end;
     }
-    NONE
+    None
 }

@@ -1,42 +1,33 @@
-// The answer: what refuses a line, or the five totals, with which the text ends.
-ghost use Rattle.std.specs.Prelude.{◌≤◌, length};
-ghost use Rattle.filing.specs.Parts.{Refused, Totalled};
+// The five totals, with which the text ends.
+ghost use Rattle.std.specs.Prelude.{◌≡◌, ℕ, List, ◌+◌, ◌^◌, ◌<◌};
+ghost use Rattle.filing.specs.Filing.{totals_from};
+ghost use Rattle.filing.specs.Parts.{read_by};
 
-use crate::Filing;
-use crate::lines::numbers_at;
-
-// A text that is refused has no totals.
-pub fn refused(number: u32, line: usize, count: usize) -> Filing
-    ensures { Refused number line count result }
-{
-    Filing {
-        number,
-        line,
-        count,
-        totals: [0u64; 5],
-    }
-}
+use crate::lines::line_of;
+use rules::{Refusal, Refused};
 
 // The totals, from behind their word on: five numbers, and no line behind them.
-pub fn totals_at(text: &[u8], from: usize, line: usize, count: usize) -> Filing
-    requires { (from ≤ length text.now) × (line ≤ from) }
-    ensures { Totalled text.now from line count result }
+pub fn totals_of(text: &[u8], line: usize) -> Result<[u64; 5], Refused>
+    requires { line + 1 < 2 ^ 64 }
+    ensures { (cells : List ℕ) → read_by result cells ≡ totals_from line cells text.now }
 {
-    let mut totals = [0u64; 5];
-    let l = numbers_at(text, from, &mut totals);
-    if l.count != 5 {
-        return refused(19, line, count);
-    }
+    let malformed = Refused {
+        refusal: Refusal::BadLine,
+        place: line,
+    };
+    let l = line_of::<5>(text).ok_or(malformed)?;
+    let totals = l.numbers.into_inner().or(Err(malformed))?;
     if !l.fits {
-        return refused(20, line, count);
+        return Err(Refused {
+            refusal: Refusal::OutOfRange,
+            place: line,
+        });
     }
-    if l.end != text.len() {
-        return refused(19, line + 1, count);
+    if !l.rest.is_empty() {
+        return Err(Refused {
+            refusal: Refusal::BadLine,
+            place: line + 1,
+        });
     }
-    Filing {
-        number: 0,
-        line: 0,
-        count,
-        totals,
-    }
+    Ok(totals)
 }

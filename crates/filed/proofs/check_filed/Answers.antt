@@ -1,15 +1,13 @@
 -- `filed::check_filed` meets its contract: the file's own refusal, or the cells against its account. Assumes nothing.
-use mathlib.Core.Path.{◌∙◌}
+use Rattle.filing.proofs.Row.{err_is}
 use Rattle.filed.proofs.Checks.{checked-own, rows_most}
 use Rattle.filed.proofs.check_filed.Goals as goal
 
-pub returns-then-a-ne0 : goal.returns-then-a-ne0
-returns-then-a-ne0 c =
-    c.own_refusal.ensures ∙ checked-own _ _ _ c.walk_unlent-w.ensures _ _ c.if-a-ne0.true
+pub returns-in_err-w : goal.returns-in_err-w
+returns-in_err-w c = checked-own _ _ c.in_err-w.ensures _ (err_is _ _ c.from_residual.ensures.1) _ _
 
 pub against_account-requires : goal.against_account-requires
-against_account-requires c =
-    (c.if-a-ne0.false, rows_most _ _ _ c.walk_unlent-w.ensures c.if-a-ne0.false)
+against_account-requires c = rows_most _ _ c.in_ok-w.ensures
 
 pub returns : goal.returns
-returns c = c.against_account.ensures _ c.walk_unlent-w.ensures
+returns c = c.against_account.ensures _ c.in_ok-w.ensures

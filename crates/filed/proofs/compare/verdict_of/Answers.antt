@@ -5,17 +5,18 @@ use Rattle.filed.specs.Filed.{verdict_on_paper}
 use Rattle.filed.proofs.Compared.{says_row, says-total, says-yes}
 use Rattle.filed.proofs.compare.verdict_of.Goals as goal
 
-pub returns-then-i-right : goal.returns-then-i-right
+pub returns-in-Some : goal.returns-in-Some
 unfolding verdict_on_paper
-returns-then-i-right c = says_row _ _ _ _ c.requires.0 _ c.first_wrong-i.ensures c.if-i-right.true _ refl
+returns-in-Some c = let w = c.in-Some.ensures in says_row _ _ _ _ c.requires.0 _ w.1 w.0 _ refl
 
-pub returns-then-k-lt5 : goal.returns-then-k-lt5
+pub returns-in-Some-first_wrong : goal.returns-in-Some-first_wrong
 unfolding verdict_on_paper
-returns-then-k-lt5 c =
+returns-in-Some-first_wrong c =
     let l = c.requires.1 in
-    says-total _ _ _ _ c.requires.0 _ c.first_wrong-i.ensures c.if-i-right.false _ c.first_wrong-k.ensures l.0 l.1 (omega arith) (omega arith) _ refl
+    let w = c.in-Some-first_wrong.ensures in
+    says-total _ _ _ _ c.requires.0 _ c.in_default.ensures (omega arith) _ w.1 l.0 l.1 (omega arith) (omega arith) _ refl
 
 pub returns : goal.returns
 unfolding verdict_on_paper
 returns c =
-    says-yes _ _ _ _ c.requires.0 _ c.first_wrong-i.ensures c.if-i-right.false _ c.first_wrong-k.ensures (omega arith) _ refl
+    says-yes _ _ _ _ c.requires.0 _ c.in_default.ensures (omega arith) _ c.in_default-first_wrong.ensures (omega arith) _ refl

@@ -1,26 +1,23 @@
 -- `numbers::next_number` meets its contract: each way out is a law on the digits that were taken. Assumes nothing.
+use mathlib.Core.Path.{sym}
+use native.Mathlib.Omega.{arith}
+use borrow.Author.Tests.{eqb-true, eqb-false}
 use Rattle.filing.proofs.Next.{next_at_end, next_without, next_other, next_last, next_more}
 use Rattle.filing.proofs.numbers.next_number.Goals as goal
 
-pub returns-then-at-text : goal.returns-then-at-text
-returns-then-at-text c = let d = c.digits-d.ensures in next_at_end _ _ _ _ d.0 d.1 _ c.if-at-text.true
+pub returns-then-is_empty : goal.returns-then-is_empty
+returns-then-is_empty c = next_without _ _ _ c.digits_first.ensures (eqb-true _ _ (sym c.if-is_empty.ensures))
 
-pub returns-then-at-from : goal.returns-then-at-from
-returns-then-at-from c =
-    let d = c.digits-d.ensures in
-    next_without _ _ _ _ d.0 d.1 c.if-at-text.false _ c.if-at-from.true
+pub returns-in_err-stop : goal.returns-in_err-stop
+returns-in_err-stop c = rw c.from_residual.ensures (next_at_end _ _ _ c.digits_first.ensures c.in_err-stop.ensures.cases)
 
-pub returns-then-b-eq-LINE_FEED : goal.returns-then-b-eq-LINE_FEED
-returns-then-b-eq-LINE_FEED c =
-    let d = c.digits-d.ensures in
-    next_last _ _ _ _ d.0 d.1 c.if-at-text.false c.if-at-from.false c.if-b-eq-LINE_FEED.true
+pub returns-in-10 : goal.returns-in-10
+returns-in-10 c =
+    next_last _ _ _ c.digits_first.ensures _ _ c.in_ok-stop.ensures.cases.0 (eqb-false _ _ (sym c.if-is_empty.ensures)) c.in-10.is _ c.value_of-value.ensures
 
-pub returns-then-b-ne-SPACE : goal.returns-then-b-ne-SPACE
-returns-then-b-ne-SPACE c =
-    let d = c.digits-d.ensures in
-    next_other _ _ _ _ d.0 d.1 c.if-at-text.false _ c.if-b-eq-LINE_FEED.false c.if-b-ne-SPACE.true
+pub returns-in-32 : goal.returns-in-32
+returns-in-32 c =
+    next_more _ _ _ c.digits_first.ensures _ _ c.in_ok-stop.ensures.cases.0 (eqb-false _ _ (sym c.if-is_empty.ensures)) c.in-32.is _ c.value_of-value.ensures
 
-pub returns : goal.returns
-returns c =
-    let d = c.digits-d.ensures in
-    next_more _ _ _ _ d.0 d.1 c.if-at-text.false c.if-at-from.false c.if-b-eq-LINE_FEED.false c.if-b-ne-SPACE.false
+pub returns-in_default : goal.returns-in_default
+returns-in_default c = next_other _ _ _ c.digits_first.ensures _ _ c.in_ok-stop.ensures.cases.0 (λ e. omega arith) (λ e. omega arith)
