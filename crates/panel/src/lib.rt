@@ -27,6 +27,7 @@ pub struct Panel {
 }
 
 // What refuses an hour, if anything does, and the next state.
+// Kept: a refusal beside the state and no Result, since `panel_step` hands the state back with a refusal too.
 #[derive(Clone, Copy, Debug, PartialEq)]
 pub struct Stepped {
     pub refused: Option<Refusal>,
