@@ -3,15 +3,14 @@ use Rattle.std.specs.Prelude.{Result, Ok, Err}
 use mathlib.Core.Path.{◌≡◌, refl, ◌∙◌, sym, ap, ap₂, subst}
 use mathlib.Core.Bool.{Bool, true, false, true≢false}
 use mathlib.Core.List.{List, [], ◌++◌}
-use Prim.Native.Nat.{ℕ, ◌-◌, ◌*◌, ◌<◌, ◌≤◌, min}
+use Prim.Native.Nat.{ℕ, ◌*◌, ◌<◌, ◌≤◌}
 use native.Mathlib.Omega.{arith}
-use lib.ListN.{length, take, drop, get_or, length-append, length-drop}
+use lib.ListN.{length, take, drop, length-append, length-drop}
 use lib.Seq.{take_at, drop_at}
 use lib.Dec.{leb}
 use borrow.Author.Tests.{le-leb, lt-leb, leb-true, eqb-false}
 use Rattle.law.specs.Numbers.{most_hours, most_cells}
-use Rattle.law.specs.Words.{need, over}
-use Rattle.law.proofs.Tabled.{table_is}
+use Rattle.law.specs.Words.{need}
 use Rattle.rules.specs.declared.Refused.{Refused}
 use Rattle.rules.specs.declared.Account.{Account}
 use Rattle.rules.specs.Refusals.{number_of, Answer, answered}
@@ -23,11 +22,9 @@ use Rattle.rules.specs.Account.{refusal, acceptance, rows_fit, work_fits, answer
 use Rattle.answers.specs.Answers.{Stated}
 use Rattle.answers.proofs.Answers.{stated, denied}
 use Rattle.answers.proofs.Rows.{rows_long}
-use Rattle.cells.proofs.Parts.{first-all}
 use Rattle.walk.specs.declared.Walked.{Walked}
 use Rattle.walk.specs.Books.{no_rows}
 use Rattle.walk.specs.Walking.{walked_answer, walked_rows}
-use Rattle.walk.proofs.Going.{zeros}
 use Rattle.walk.proofs.Promises.{no_rows-long}
 
 -- the cells past 2,208 stand as they were

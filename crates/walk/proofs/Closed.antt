@@ -1,10 +1,10 @@
 -- What the calls at the end of a line leave, put together. Assumes nothing.
 use mathlib.Core.Path.{◌≡◌, refl, ◌∙◌, sym, ap, ap₂, subst, subst₂}
 use mathlib.Core.List.{List}
-use Prim.Native.Nat.{ℕ, ◌+◌, ◌-◌, ◌*◌, ◌^◌, ◌≤◌, ◌<◌}
+use Prim.Native.Nat.{ℕ, ◌+◌, ◌*◌, ◌^◌, ◌≤◌, ◌<◌}
 use native.Mathlib.Nat.{mul-le-mul, mul-le-mul_right, mul_assoc, mul_comm}
 use native.Mathlib.Omega.{arith}
-use lib.ListN.{length, take, drop, get_or, length-take}
+use lib.ListN.{length, take, get_or, length-take}
 use lib.Seq.{get_or-take}
 use lib.Dec.{eqb}
 use Rattle.law.specs.Numbers.{hours_of_day, most_days, most_hours, most_surveys, most_concentration, most_flow, most_amount, per_gram, per_gram_of_water, most_grams}

@@ -1,12 +1,11 @@
 -- The loop of the walk: the code's state stands for some lines, from which the rules' walk goes on to the file's outcome. Assumes nothing.
 use mathlib.Core.Path.{◌≡◌, refl, ◌∙◌, sym, ap, subst}
-use mathlib.Core.Bool.{Bool, true, false, true≢false, not, ◌||◌}
+use mathlib.Core.Bool.{Bool, true, false, true≢false, ◌||◌}
 use mathlib.Core.List.{List, []}
 use Prim.Native.Nat.{ℕ, zero, suc, ◌+◌, ◌-◌, ◌<◌, ◌≤◌}
 use native.Mathlib.Omega.{arith}
 use lib.ListN.{length, take, drop, replicate, get_or, length-drop, length-replicate, get_or-replicate}
-use lib.Dec.{eqb}
-use borrow.Author.Tests.{lt-ltb, le-ltb, eq-eqb, ne_eqb, eqb-true, eqb-false}
+use borrow.Author.Tests.{lt-ltb, le-ltb, eq-eqb, ne_eqb, eqb-false}
 use Rattle.law.specs.Numbers.{most_days, most_hours, most_cells, total_cells}
 use Rattle.law.specs.Words.{need, pick, sum_of, table}
 use Rattle.law.proofs.Over.{part-whole}
@@ -22,12 +21,12 @@ use Rattle.rules.specs.declared.View.{View}
 use Rattle.rules.specs.Records.{record_in, size_in, records_from, records_of}
 use Rattle.rules.specs.OnPaper.{record_on_paper}
 use Rattle.rules.proofs.OnPaper.{record_only}
-use Rattle.rules.specs.Judge.{refuse, fine, first, judge_record, judge_readings, judge, at_place}
+use Rattle.rules.specs.Judge.{refuse, fine, judge_record, judge_readings, judge, at_place}
 use Rattle.rules.specs.Row.{rows_of, total_of, totals_of, cells, concentration_cells, flow_cells}
 use Rattle.rules.specs.Walk.{Stand, Between, Inside, InWater, no_head, view_of, runs_of, taken, ended, fault_of, walk, Refused, outcome}
-use Rattle.rules.proofs.Faults.{Within, stands_zero, at_place-number}
+use Rattle.rules.proofs.Faults.{Within, at_place-number}
 use Rattle.rules.proofs.Records.{size_some, record_whole}
-use Rattle.judge.proofs.Laws.{record_stands, record_within, readings-within, judge-refused, judge-passed, bad_refused}
+use Rattle.judge.proofs.Laws.{record_within, readings-within, judge-refused, judge-passed, bad_refused}
 use Rattle.walk.specs.declared.books.Sums.{Sums}
 use Rattle.walk.specs.declared.books.Taken.{Taken}
 use Rattle.walk.specs.declared.books.Done.{Done}

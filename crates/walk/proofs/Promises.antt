@@ -3,13 +3,13 @@ use Rattle.std.specs.Prelude.{Result, Ok, Err, is_err}
 use mathlib.Core.Path.{◌≡◌, sym, ◌∙◌, ap}
 use mathlib.Core.Bool.{true, false, true≢false}
 use mathlib.Core.List.{List, [], ◌++◌}
-use Prim.Native.Nat.{ℕ, ◌*◌, ◌<◌, ◌≤◌, min}
+use Prim.Native.Nat.{ℕ, ◌*◌, ◌<◌, ◌≤◌}
 use native.Mathlib.Omega.{arith}
 use lib.ListN.{length, drop, length-replicate}
 use lib.Dec.{leb}
 use borrow.Author.Tests.{le-leb, lt-leb}
 use Rattle.law.specs.Numbers.{most_hours, row_cells, most_cells}
-use Rattle.law.specs.Words.{need, over}
+use Rattle.law.specs.Words.{need}
 use Rattle.rules.specs.Refusals.{Answer}
 use Rattle.rules.specs.Judge.{refuse}
 use Rattle.rules.specs.Row.{cells}

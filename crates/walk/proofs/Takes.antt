@@ -1,5 +1,5 @@
 -- What each kind of record asks when it is taken in, and that the books then stand for the lines. Assumes nothing.
-use Rattle.std.specs.Prelude.{Option, Some, None, Result, Ok, Err}
+use Rattle.std.specs.Prelude.{Option, Some, None, Result, Ok}
 use mathlib.Core.Path.{◌≡◌, refl, ◌∙◌, sym, ap, subst, subst₂}
 use mathlib.Core.Bool.{Bool, true, false, true≢false, ◌||◌}
 use mathlib.Core.List.{List, [], ◌∷◌}
@@ -30,11 +30,11 @@ use lib.Dec.{eqb}
 use Rattle.law.proofs.Tests.{pick_case}
 use Rattle.rules.specs.Judge.{fine, line_method, judge_record, judge_readings}
 use Rattle.rules.specs.declared.Refused.{Refused}
-use Rattle.rules.specs.Refusals.{Fault, told}
+use Rattle.rules.specs.Refusals.{told}
 use Rattle.rules.specs.Walk.{Stand, Between, Inside, InWater, view_of, runs_of, taken, taken_between, taken_inside, taken_in_water}
 use Rattle.rules.proofs.Records.{day_in}
 use Rattle.day.proofs.Laws.{PairAccepted}
-use Rattle.judge.proofs.Laws.{SurveyOk, EndOk, readings-stand, head_ok, day_ok, enforcement_ok, plant_ok, batch-ok, end_ok, bad_refused, outfall_ok, water_day-ok, day_enforcement_ok, day_plant_ok}
+use Rattle.judge.proofs.Laws.{SurveyOk, EndOk, head_ok, day_ok, enforcement_ok, plant_ok, batch-ok, end_ok, bad_refused, outfall_ok, water_day-ok, day_enforcement_ok, day_plant_ok}
 use Rattle.hours.proofs.Laws.{running-period, missing_period}
 use Rattle.walk.specs.declared.books.Sums.{Sums}
 use Rattle.walk.specs.declared.books.Taken.{Taken}

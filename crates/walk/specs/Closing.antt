@@ -28,6 +28,12 @@ pub record Limits (conc flow : List ℕ) : Type 0 where
   pub concentrations : (h : ℕ) → get_or conc h 0 ≤ most_concentration
   pub flows : (h : ℕ) → get_or flow h 0 ≤ most_flow
 
+-- what the grams of surveys ask
+pub record SurveyedReady (v : View) (s : Sums) : Type 0 where
+  pub some : 0 < s.surveyed
+  pub weight : s.weight ≤ most_surveys * most_amount
+  pub running : v.running ≤ most_hours
+
 -- what a line's grams ask, by its method
 pub record GramsReady (method : ℕ) (v : View) (s : Sums) (conc flow : List ℕ) : Type 0 where
   pub conc_long : hours_of_day * v.head.days ≤ length conc

@@ -1,5 +1,5 @@
 -- What the walk and its steps promise each other.
-use Rattle.std.specs.Prelude.{ℕ, ◌+◌, ◌*◌, ◌<◌, ◌≤◌, List, ◌++◌, ◌≡◌, length, drop, Result, Ok, Err}
+use Rattle.std.specs.Prelude.{ℕ, ◌+◌, ◌*◌, ◌≤◌, List, ◌++◌, ◌≡◌, length, drop, Result, Ok, Err}
 use Rattle.law.specs.Numbers.{most_lines, row_cells}
 use Rattle.rules.specs.Refusals.{Answer, fault_in, told, answered}
 use Rattle.rules.specs.declared.Refused.{Refused as RefusedAt}

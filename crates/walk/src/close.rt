@@ -4,11 +4,12 @@ ghost use Rattle.law.specs.Numbers.{most_hours, most_lines, total_cells, most_su
 ghost use Rattle.law.specs.Words.{halves_up};
 ghost use Rattle.std.specs.List.{zip};
 ghost use Rattle.fuel.specs.Fuel.{fuel_on_paper};
-ghost use Rattle.walk.specs.Closing.{grams_in, period_weight, DailyReady, daily_grams, GramsReady, line_grams, with_grams};
+ghost use Rattle.rules.specs.Refusals.{method_number};
+ghost use Rattle.walk.specs.Closing.{grams_in, period_weight, SurveyedReady, DailyReady, daily_grams, GramsReady, line_grams, with_grams};
 
 use crate::books::Sums;
 use fuel::NoFigure;
-use rules::View;
+use rules::{Method, View};
 
 #[tactic(auto, unfolding(fuel::specs::Fuel::fuel_on_paper))]
 fn grams_in(f: Result<u64, NoFigure>) -> u64
@@ -50,31 +51,49 @@ fn grams_of(weight: u64, n: u32, halfgram: u64) -> u64
     (weight + half) / (2 * half)
 }
 
-// The grams of a line of an outfall by its method and its cells; no day is filled.
-pub fn daily_grams(method: u32, v: View, s: Sums, conc: &[u32], flow: &[u32]) -> u64
-    requires { DailyReady method v s conc.now flow.now }
-    ensures { result ≡ daily_grams method v s conc.now flow.now }
+// The grams of surveys: "the mean" of c x l over the distinct surveys, times the running hours or days.
+fn surveyed_grams(v: View, s: Sums, halfgram: u64) -> u64
+    requires { SurveyedReady v s × (0 < halfgram) × (halfgram ≤ per_gram) }
+    ensures { result ≡ halves_up (s.weight * v.running) (s.surveyed * (2 * halfgram)) }
 {
-    let h = v.head;
-    if method == 1 {
-        return grams_of(period_weight(conc, flow, h.days as usize), 1, HALF_OF_WATER);
+    grams_of(s.weight * u64::from(v.running), s.surveyed, halfgram)
+}
+
+// The grams of a line of an outfall by its method and its cells; no day is filled.
+#[tactic(auto, unfolding(law::specs::Words::pick))]
+pub fn daily_grams(method: Option<Method>, v: View, s: Sums, conc: &[u32], flow: &[u32]) -> u64
+    requires { DailyReady (method_number method) v s conc.now flow.now }
+    ensures { result ≡ daily_grams (method_number method) v s conc.now flow.now }
+{
+    match method {
+        Some(Method::Automatic) => {
+            grams_of(
+                period_weight(conc, flow, v.head.days as usize),
+                1,
+                HALF_OF_WATER,
+            )
+        }
+        _ => surveyed_grams(v, s, HALF_OF_WATER),
     }
-    grams_of(s.weight * (v.running as u64), s.surveyed, HALF_OF_WATER)
 }
 
 // The grams of a line by its method and its cells, which are filled under method 1.
-pub fn line_grams(method: u32, v: View, s: Sums, conc: &[u32], flow: &[u32]) -> u64
-    requires { GramsReady method v s conc.now flow.now }
-    ensures { result ≡ line_grams method v s conc.now flow.now }
+#[tactic(auto, unfolding(law::specs::Words::pick))]
+pub fn line_grams(method: Option<Method>, v: View, s: Sums, conc: &[u32], flow: &[u32]) -> u64
+    requires { GramsReady (method_number method) v s conc.now flow.now }
+    ensures { result ≡ line_grams (method_number method) v s conc.now flow.now }
 {
-    let h = v.head;
-    if method == 1 {
-        return grams_of(period_weight(conc, flow, 24 * (h.days as usize)), 1, HALF);
+    match method {
+        Some(Method::Automatic) => {
+            grams_of(
+                period_weight(conc, flow, 24 * (v.head.days as usize)),
+                1,
+                HALF,
+            )
+        }
+        Some(Method::Manual) => surveyed_grams(v, s, HALF),
+        _ => grams_in(fuel::fuel_figure(v.head, v.fuel, s.sulphur, s.ash)),
     }
-    if method == 2 {
-        return grams_of(s.weight * (v.running as u64), s.surveyed, HALF);
-    }
-    grams_in(fuel::fuel_figure(h, v.fuel, s.sulphur, s.ash))
 }
 
 // "Each pollutant's grams summed": a line's grams go to the total of its pollutant.

@@ -8,7 +8,7 @@ use Rattle.rules.specs.Refusals.{answered}
 use Rattle.rules.specs.Judge.{refuse}
 use Rattle.rules.specs.Account.{refusal}
 use Rattle.walk.proofs.Asked.{err_is}
-use Rattle.quarter.proofs.Promises.{lent, rows_most, table_long, asked, asked_refused, promise_8, promise_0}
+use Rattle.quarter.proofs.Promises.{lent, rows_most, asked, asked_refused, promise_8, promise_0}
 use Rattle.quarter.proofs.account.Goals as goal
 
 pub returns-in_err-walked : goal.returns-in_err-walked

@@ -10,7 +10,7 @@ use Rattle.walk.specs.Books.{no_rows}
 use Rattle.walk.specs.Walking.{WalkPromise}
 use Rattle.walk.proofs.Asked.{err_is, mapped_ok, mapped_err}
 use Rattle.walk.proofs.Cleared.{clear_long}
-use Rattle.walk.proofs.Going.{going_start, turn_within, turn_refused, turn_goes, turn_shorter, end_open, end_closed}
+use Rattle.walk.proofs.Going.{going_start, turn_refused, turn_goes, turn_shorter, end_open, end_closed}
 use Rattle.walk.proofs.turns.walk_records.Goals as goal
 
 pub loop-at-init : goal.loop-at-init
