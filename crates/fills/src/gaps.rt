@@ -19,6 +19,7 @@ fn gather(
     ensures { Gathered states.now concentrations.now flows.now cs.new ls.new result }
 {
     let mut b = 0;
+    // Kept: a chain is no plainer, since an hour has its cell in three slices, and is written at another place of two.
     for i in 0..states.len() {
         if states[i] != MEASURED {
             continue;
@@ -76,6 +77,7 @@ fn fill_along(states: &[u8], concentrations: &mut [u32], flows: &mut [u32], cs: 
     let mut l = Series::new(ls);
     let mut empty: usize = 0;
     let mut i: usize = 0;
+    // Kept: no `for`, which is no plainer, since a turn goes on behind the gap or the run that it found, and not by one hour.
     while i < states.len() {
         let s = states[i];
         if s == MEASURED {
