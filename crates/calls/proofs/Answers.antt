@@ -1,26 +1,14 @@
 -- The answer of each call from what its face promises. Assumes nothing.
-use Rattle.std.proofs.Common.{◌≡◌, ℕ, ◌≤◌, Bool, true, leb, List, [], ◌∷◌, ◌++◌, length, take, drop, replicate, sym, refl, ap, ◌∙◌, ap₂, arith, length-take, take_at, le-leb}
+use Rattle.std.proofs.Common.{◌≡◌, ℕ, ◌≤◌, Bool, true, leb, List, ◌++◌, length, take, drop, replicate, refl, ap, ◌∙◌, ap₂, arith, length-take, take_at, le-leb}
 use lib.Ieee.{Float, binary32, binary64, of_bits}
 use Rattle.law.specs.Words.{need}
 use Rattle.law.specs.Written.{Wrote}
 use Rattle.law.proofs.Wrote.{wrote_as}
 use Rattle.text.specs.Text.{Text}
-use Rattle.filed.specs.Filed.{checked}
 use Rattle.filed.specs.Said.{said}
-use Rattle.doarpezwim.specs.Faces.{panel_of, AccountFace, PanelFace, PartFace, ImportFace, verdict_cells_by, verdict_cells, CheckFace}
+use Rattle.doarpezwim.specs.Faces.{panel_of, AccountFace, PanelFace, PartFace, ImportFace, CheckFace}
 use Rattle.field.specs.Bytes.{u32_bytes, u64_bytes, cells_bytes}
 use Rattle.calls.specs.Answers.{Answered, left_bytes, account_bytes, state_bytes, panel_bytes, survey_bytes, lent_bytes, import_bytes, ImportAnswered, check_bytes, filed_bytes}
-
--- what is said of a filing has three cells
-verdict_long : (number : ℕ) (values : List ℕ) → length (verdict_cells_by number values) ≡ 3
-unfolding verdict_cells_by
-verdict_long number [] = refl
-verdict_long number (place ∷ []) = refl
-verdict_long number (row ∷ field ∷ more) = refl
-
-pub check_long : (file rows totals : List ℕ) (number : ℕ) (answer' : List ℕ) → CheckFace file rows totals number answer' → 3 ≡ length answer'
-unfolding verdict_cells
-check_long file rows totals number answer' f = let p = checked file rows totals in sym (ap length f.answers ∙ verdict_long p.number p.values)
 
 -- the bytes of a text that stand at the start of a buffer long enough
 text_front : (bytes line line' : List ℕ) (k : ℕ) → 8_192 ≤ length line → Text bytes line line' k → take k line' ≡ bytes

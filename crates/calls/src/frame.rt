@@ -51,6 +51,7 @@ fn read_bytes<'a>(from: &mut impl Read, room: &'a mut [u8], n: usize) -> Option<
     Some(bytes)
 }
 
+// Kept: reader, room and buffer as parameters of each call. A frame's bytes stay lent while its answer is written, so one struct of all three is no plainer.
 // The account's answer; none where more cells are to be lent than there are.
 fn account<'a>(
     from: &mut impl Read,

@@ -2,8 +2,6 @@
 // length, little-endian; the text is what comes behind it.
 #![tactic(auto)]
 
-ghost use Rattle.std.specs.Prelude.{◌≤◌, length, IfSome};
-
 use std::env::FillError;
 use std::io;
 use std::io::Read;
@@ -18,23 +16,20 @@ fn length(from: &mut impl Read) -> Option<usize> {
         .map(|n| n as usize)
 }
 
-// The length of the line that is said of the frame; none where the file is cut short or a read failed. The longest file that is taken fills its room.
-fn said(from: &mut impl Read, line: &mut [u8; 8192]) -> Option<usize>
-    ensures { IfSome result (λ k. k ≤ length line.new) }
-{
+// The line that is said of the frame; none where the file is cut short or a read failed. The longest file that is taken fills its room.
+fn said<'a>(from: &mut impl Read, line: &'a mut [u8; 8192]) -> Option<&'a [u8]> {
     let mut file = [0; 65536];
     let mut text = [0; 65537];
     let n = length(from)?;
     let Some(file) = file.get_mut(..n) else {
-        let refused = b"refused 13 0\n";
-        line[..refused.len()].copy_from_slice(refused);
-        return Some(refused.len());
+        return Some(b"refused 13 0\n");
     };
     if input::read_pieces(from, file, 65536) != Ok(n) {
         return None;
     }
     let m = input::read_pieces(from, &mut text, 65537).ok()?;
-    Some(filed::filed_text(file, &text[..m], line))
+    let k = filed::filed_text(file, &text[..m], line);
+    Some(&line[..k])
 }
 
 fn main(rt: HostRuntime) -> io::Result<()> {
@@ -47,10 +42,10 @@ fn main(rt: HostRuntime) -> io::Result<()> {
         );
     }
     let mut line = [0; 8192];
-    let Some(k) = said(&mut rt.stdin(), &mut line) else {
+    let Some(line) = said(&mut rt.stdin(), &mut line) else {
         return err.write_all(b"checker: the input could not be read, nothing is said\n");
     };
-    rt.stdout().write_all(&line[..k]).or_else(|_| err.write_all(
+    rt.stdout().write_all(line).or_else(|_| err.write_all(
         b"checker: the answer could not be written\n",
     ))
 }

@@ -1,12 +1,8 @@
 -- `calls::check_call::answer` meets its contract: what the face promises of the frame's cells is written. Assumes nothing.
-use Rattle.std.proofs.Common.{arith}
 use Rattle.law.proofs.Wrote.{wrote_as}
-use Rattle.calls.proofs.Answers.{check_long, check_wrote}
+use Rattle.calls.proofs.Answers.{check_wrote}
 use Rattle.calls.proofs.Puts.{cells_flat}
 use Rattle.calls.proofs.check_call.answer.Goals as goal
-
-pub put_all-requires : goal.put_all-requires
-put_all-requires c = omega (arith, check_long _ _ _ _ _ c.doarpezwim_check.ensures)
 
 pub returns : goal.returns
 returns c =
