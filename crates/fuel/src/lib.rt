@@ -34,7 +34,7 @@ fn entry_of(h: Head) -> Option<Coefficients>
 }
 
 // The figure of amounts within the document's range, by the entry that the tables have: one rounding.
-#[tactic(auto, using(crate::proofs::Figures::balance_fits), unfolding(crate::specs::Fuel::fuel_on_paper, crate::specs::Fuel::figure_of, crate::specs::Fuel::top_of, rules::specs::Grams::fuel_bottom, rules::specs::OnPaper::coefficients_on_paper))]
+#[tactic(auto, using(crate::proofs::Figures::balance_fits), unfolding(crate::specs::Opened::figures))]
 fn figure(h: Head, kg: u64, sulphur: u16, ash: u64) -> Result<u64, NoFigure>
     requires { Ranged kg sulphur ash }
     ensures { fuel_on_paper result ≡ figure_of (coefficients_of h) kg sulphur ash }

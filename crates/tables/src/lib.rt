@@ -16,7 +16,7 @@ use rules::{Coefficients, Head};
 // What the tables have for a line that goes by fuel: "sulphur dioxide by mass balance (3), the others by coefficient (4)". Formula 4 takes q and K,
 // formula 5 one coefficient for oxides, and a and b for dust.
 // Kept: pollutant, furnace, coal and mark by their bytes, since `coefficients_of` answers every head, judged or not.
-#[tactic(auto, unfolding(rules::specs::Tables::coefficients_of, rules::specs::Tables::balance_of, rules::specs::Tables::oxides_of, rules::specs::Tables::dust_of, law::specs::Words::pick))]
+#[tactic(auto, unfolding(crate::specs::Opened::lookups))]
 pub fn coefficients(h: Head) -> Option<Coefficients>
     ensures { coefficients_on_paper result ≡ coefficients_on_paper (coefficients_of h) }
 {
