@@ -23,7 +23,7 @@ with_bits bits p = bit_or bits (bit_xor p.0 p.1)
 abbrev pub differing : List ℕ → List ℕ → ℕ
 differing filed right = fold with_bits 0 (zip filed right)
 
--- the same as the code has it
+-- the first place at which they differ, as the code has it: none where all are alike
 abbrev pub FirstOrNone : List ℕ → List ℕ → Option ℕ → Type 0
 FirstOrNone filed right k = MatchOption k (FirstWrong filed right (length right)) (λ i. (i < length right) × FirstWrong filed right i)
 
