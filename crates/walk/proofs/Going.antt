@@ -177,10 +177,7 @@ module _ (file : List ℕ) (v : View) (s : Sums) (at : ℕ) (o : Open) (d : Done
       here-is : told t ≡ verdict file at g.stand
       here-is = mine.faults ∙ ap (judge (view_of g.stand) (runs_of g.stand)) (part-whole at file)
 
-      -- its refusal lies within the file, and is the file's
-      pub turn_within : (f : RefusedAt) → t ≡ Err f → at + f.place ≤ length file
-      turn_within f e = omega (arith, mine.within f e, ap length (part-whole at file), length-drop at file)
-
+      -- its refusal is the file's
       pub turn_refused : (f : RefusedAt) → t ≡ Err f → outcome file ≡ Refused (fault_in (behind at f))
       unfolding told fault_in at_place need refuse
       turn_refused f e =

@@ -15,7 +15,6 @@ use Rattle.rules.specs.Lines.{StackLine, besides, surveyed, put_surveys, days_af
 use Rattle.rules.specs.Outfalls.{Line, OfStack, head_of_line}
 use Rattle.rules.specs.Walk.{Between, Inside, no_head, view_of, floor_of, surveys_of, begun, with_day, with_enforcement, with_plant, with_batch}
 use Rattle.walk.proofs.Hours.{after-day}
-use Rattle.walk.specs.declared.books.Sums.{Sums}
 use Rattle.walk.specs.Views.{one_more, opened_view, after_head, after_day, after_enforcement, after_plant, after_batch, after_end}
 
 pub survey-count : (ss : List Survey) → (surveys_of ss).count ≡ length ss
@@ -56,7 +55,3 @@ view_batch x done b = rw (add-one (length x.batches))
 pub view_end : (x : StackLine) (done : List Line) → after_end (view_of (Inside x done)) ≡ view_of (Between (OfStack x ∷ done))
 unfolding view_of floor_of head_of_line surveys_of
 view_end x done = rw (add-one (length done))
-
--- a line that is opened has nothing summed, by the cells that it uses
-pub used_by : (a b : ℕ) → a ≡ b → ◌≡◌ {A = Sums} (record { surveyed = 0; weight = 0; sulphur = 0; ash = 0; used = a }) (record { surveyed = 0; weight = 0; sulphur = 0; ash = 0; used = b })
-used_by a b e = ap (λ (n : ℕ). record { surveyed = 0; weight = 0; sulphur = 0; ash = 0; used = n }) e

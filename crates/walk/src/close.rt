@@ -60,6 +60,7 @@ fn surveyed_grams(v: View, s: Sums, halfgram: u64) -> u64
 }
 
 // The grams of a line of an outfall by its method and its cells; no day is filled.
+// Kept: beside `line_grams`, since water has no fuel: one `match` for both would test the world in every arm.
 #[tactic(auto, unfolding(law::specs::Words::pick))]
 pub fn daily_grams(method: Option<Method>, v: View, s: Sums, conc: &[u32], flow: &[u32]) -> u64
     requires { DailyReady (method_number method) v s conc.now flow.now }

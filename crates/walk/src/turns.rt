@@ -68,6 +68,7 @@ pub fn walk_records(file: &[u8], conc: &mut [u32], flow: &mut [u32]) -> Result<W
         sums: Sums::default(),
     };
     let mut at = 0;
+    // Kept: a `while`, since each record says where the next begins.
     while at < file.len() {
         let bytes = &file[at..];
         t = step(bytes, t, &mut marks, conc, flow, &mut done).map_err(|f| behind(f, at))?;
