@@ -29,7 +29,7 @@ use Rattle.filed.specs.Filed.{verdict_on_paper, refused_with, compared, against_
 use Rattle.filed.specs.Parts.{FirstWrong}
 use Rattle.filed.proofs.Compared.{compared-wrong, compared-yes, first-exists}
 use Rattle.demands.specs.Demands.{Call, Result, Kept}
-use Rattle.std.proofs.Common.{Result, Ok, Err}
+use Rattle.std.proofs.Common.{Result as Answered, Ok, Err}
 use Rattle.demands.specs.Filings.{Filing, Verdict, Agrees, Wrong, Unchecked, on_paper, spoken, Meets, Right, FirstDiffers, RefusedBy, Checks}
 
 pub totals_long : (lines : List Line) → length (totals_of lines) ≡ total_cells
@@ -54,7 +54,7 @@ said_only (Unchecked f) (Unchecked g) e =
     let place = ap (λ (x : OnPaper). get_or x.values 0 0) e in
     ap₂ (λ (n p : ℕ). Unchecked (record { number = n; place = p })) (ap (λ (x : OnPaper). x.number) e) place
 
-by_code : (v : Result Found Fails) → verdict_on_paper v ≡ on_paper (spoken v)
+by_code : (v : Answered Found Fails) → verdict_on_paper v ≡ on_paper (spoken v)
 unfolding verdict_on_paper on_paper spoken
 by_code (Ok Alike) = refl
 by_code (Ok (Unlike row field)) = refl
