@@ -9,6 +9,7 @@ use rules::Refusal;
 
 mod faces;
 
+// Kept: numbers, cells and lent slices in all five calls, which are the C interface: doarpezwim_c exports them as they stand.
 pub fn doarpezwim_account(
     file: &[u8],
     rows: &mut [u64],

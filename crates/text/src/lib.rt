@@ -21,6 +21,7 @@ const LONGEST: usize = 8192;
 const MOST_ROWS: usize = 48;
 
 // A line that is said of a file or of a filing.
+// Kept: `Refused` with two numbers and not rules::Refused, since `said_text` promises a line for every number and place.
 #[derive(Clone, Copy, Debug, PartialEq, Eq)]
 pub enum Said {
     Refused(u64, u64),
@@ -46,6 +47,7 @@ fn put_word(text: &mut [u8], word: &[u8], first: u64, second: u64) -> usize
 }
 
 // "refused N PLACE", "wrong ROW FIELD" or "yes"; 0 where the buffer could be too short.
+// Kept: a count and no Option, since `Text` counts the bytes, and 0 of them are written then.
 pub fn said_text(text: &mut [u8], s: Said) -> usize
     ensures { Text (said_line s) text.old text.new result }
 {
