@@ -20,10 +20,10 @@ use Rattle.printed.specs.Program.{row_lines, total_line, printed_from, printed}
 use Rattle.printed.proofs.Texts as printing
 use Rattle.filing.specs.Filing.{filed_limit, read_of}
 use Rattle.filing.proofs.Back.{Filed, text_of, read_back}
-use Rattle.filed.specs.Filed.{verdict_on_paper, against, checked}
+use Rattle.filed.specs.Filed.{against, checked}
 use Rattle.filed.specs.Said.{against_read, checked_text, line_by, line_of, said}
 use Rattle.filed.proofs.Saying.{not_long}
-use Rattle.demands.specs.Filings.{Filing, Right, PrintedAgrees}
+use Rattle.demands.specs.Filings.{Filing, on_paper, Right, PrintedAgrees}
 use Rattle.demands.proofs.Filings.{totals_long, yes_if}
 
 -- ---- numbers that 64 bits hold
@@ -83,7 +83,7 @@ module _ (file : List ℕ) (lines : List Line) (o : outcome file ≡ Accepted li
   checked-is = rw (read_is, o)
 
   says-yes : said file (printed file) ≡ yes_line
-  unfolding verdict_on_paper line_of line_by
+  unfolding on_paper line_of line_by
   says-yes =
       let x : Filing = record { file = file; rows = rows_of lines; totals = totals_of lines } in
       let right : Right x = record { lines = lines; accepted = o; rows_are = refl; totals_are = refl } in
