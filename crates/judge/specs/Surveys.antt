@@ -6,13 +6,13 @@ use Rattle.rules.specs.declared.View.{View}
 use Rattle.rules.specs.Refusals.{Fault}
 use Rattle.rules.specs.Hours.{runs_at}
 use Rattle.rules.specs.Judge.{first, place_enforcement, place_plant, judge_survey, judge_day_survey, runs_on}
-use Rattle.judge.specs.declared.surveys.Kind.{Kind}
-use Rattle.judge.specs.declared.surveys.Kind.TheVariants.{Enforcement, Plant}
+use Rattle.rules.specs.declared.Surveyor.{Surveyor}
+use Rattle.rules.specs.declared.Surveyor.TheVariants.{Enforcement, Plant}
 use Rattle.judge.specs.declared.surveys.World.{World}
 use Rattle.judge.specs.declared.surveys.World.TheVariants.{Air, Water}
 
 -- 2, by its kind
-abbrev pub place_survey : Kind → Bool → View → Survey → Fault
+abbrev pub place_survey : Surveyor → Bool → View → Survey → Fault
 place_survey Enforcement inside v s = place_enforcement inside v s
 place_survey Plant inside v s = place_plant inside v s
 
@@ -36,5 +36,5 @@ abbrev pub judge_survey_in : World → View → List ℕ → Survey → Fault
 judge_survey_in Air v runs s = judge_survey v runs s
 judge_survey_in Water v states s = judge_day_survey v states s
 
-abbrev pub judge_survey_of : World → Kind → View → List ℕ → Survey → Fault
+abbrev pub judge_survey_of : World → Surveyor → View → List ℕ → Survey → Fault
 judge_survey_of world kind v runs s = first (place_survey kind (inside_of world v) v s) (judge_survey_in world v runs s)

@@ -3,8 +3,7 @@ ghost use Rattle.std.specs.Prelude.{◌≡◌};
 ghost use Rattle.rules.specs.Refusals.{told};
 ghost use Rattle.rules.specs.Judge.{first, judge_entry, place_end, judge_fuel, judge_method};
 
-use crate::ensure::ensure;
-use rules::{Coefficients, Method, Refusal, Refused, View};
+use rules::{Coefficients, Method, Refusal, Refused, View, ensure};
 
 // "No table entry."
 fn judge_entry(entry: Option<Coefficients>) -> Result<(), Refused>

@@ -5,15 +5,7 @@ ghost use Rattle.rules.specs.Fields.{survey_fields};
 ghost use Rattle.rules.specs.Judge.{first, first_wrong, runs_on};
 ghost use Rattle.judge.specs.Surveys.{place_survey, inside_of, period_of, runs_in, judge_survey_of};
 
-use crate::ensure::ensure;
-use rules::{Refusal, Refused, Survey, View};
-
-// Who measured a survey.
-#[derive(Clone, Copy)]
-pub enum Kind {
-    Enforcement,
-    Plant,
-}
+use rules::{Refusal, Refused, Survey, Surveyor, View, ensure};
 
 // What a survey names: an hour of a stack, or a day of an outfall.
 #[derive(Clone, Copy)]
@@ -64,12 +56,12 @@ fn runs_on(states: &[u32], day: u16) -> bool
 
 // Outside a line of its world, before the last day, after fuel, not rising within its kind, one too many: "at most 120 surveys of both kinds together". An
 // enforcement survey has no plant survey before it.
-fn place_survey(kind: Kind, inside: bool, v: View, s: Survey) -> Result<(), Refused>
-    ensures { told result ≡ place_survey kind inside v s }
+fn place_survey(by: Surveyor, inside: bool, v: View, s: Survey) -> Result<(), Refused>
+    ensures { told result ≡ place_survey by inside v s }
 {
-    let (turn, floor) = match kind {
-        Kind::Enforcement => (v.plant.count == 0, v.enforcement.floor),
-        Kind::Plant => (true, v.plant.floor),
+    let (turn, floor) = match by {
+        Surveyor::Enforcement => (v.plant.count == 0, v.enforcement.floor),
+        Surveyor::Plant => (true, v.plant.floor),
     };
     let phase = inside & (v.days == u32::from(v.head.days)) & (v.batches == 0);
     let left = crate::surveys_of(v) < 120;
@@ -91,14 +83,14 @@ fn range_survey(period: u32, s: Survey) -> Result<(), Refused>
 // Kinds 3, 4, 11 and 12: where it stands, its hour or day and its readings, then "survey in a stopped hour".
 pub fn judge_survey(
     world: World,
-    kind: Kind,
+    by: Surveyor,
     v: View,
     runs: &[u32],
     s: Survey,
 ) -> Result<(), Refused>
-    ensures { told result ≡ judge_survey_of world kind v runs.now s }
+    ensures { told result ≡ judge_survey_of world by v runs.now s }
 {
-    place_survey(kind, world.is_open(v), v, s)?;
+    place_survey(by, world.is_open(v), v, s)?;
     range_survey(world.period(v), s)?;
     ensure(world.runs(runs, s.hour), Refusal::StoppedHour, 0)
 }
