@@ -14,15 +14,6 @@ module _ {A : Type 0} where
   pub refused_none : (f : Refused) (a : A) → ◌≡◌ {A = Result A Refused} (Err f) (Ok a) → ⊥
   refused_none f a e = let z : ◌≡◌ {A = ℕ} 0 1 = cc in omega arith
 
-  -- what is accepted is read back
-  ok_or : A → Result A Refused → A
-  ok_or a (Ok b) = b
-  ok_or a (Err f) = a
-
-  pub ok_is : (a b : A) → ◌≡◌ {A = Result A Refused} (Ok a) (Ok b) → a ≡ b
-  unfolding ok_or
-  ok_is a b e = ap (ok_or a) e
-
   -- what a refusal that is mapped was before
   module _ (P : Refused → Refused → Type 0) where
     pub mapped_ok : (r m : Result A Refused) → MatchResult r (λ x. m ≡ Ok x) (λ g. IsErrAnd m (P g)) → (a : A) → m ≡ Ok a → r ≡ Ok a

@@ -129,15 +129,15 @@ module _ (stand : Stand) (v : View) (s : Sums) (o : Open) (d : Done) (kept : Kep
     by_view = ap (λ (w : View). judge w (runs_of stand) bytes) kept.view
 
     -- the judge refuses it
-    pub refused_step : (f : RefusedAt) → j ≡ Err f → (t : Result Taken RefusedAt) → t ≡ Err f → (o' : Open) (d' : Done) → Stepped stand bytes t o' d'
+    pub refused_step : (f : RefusedAt) → j ≡ Err f → (t : Result Unit RefusedAt) → t ≡ Err f → (u : Taken) (o' : Open) (d' : Done) → Stepped stand bytes t u o' d'
     unfolding told fault_in
-    refused_step f e t is o' d' =
+    refused_step f e t is u o' d' =
         let n = numbered_told j f e in
         let w : Within (length bytes) (told j) = subst (Within (length bytes)) (sym (judged-here ∙ ap (judge_record v (runs_of stand)) read)) (record_within v (runs_of stand) bytes) in
         record {
           faults = ap told is ∙ sym (ap told e) ∙ judge-refused v (runs_of stand) bytes r read (told j) judged-here n ∙ by_view;
-          stays = λ u q. absurd (refused_none f u (sym is ∙ q));
-          within = λ g q. omega (arith, w, ap (λ (x : Result Unit RefusedAt). (told x).place) e, ap (λ (x : Result Taken RefusedAt). (told x).place) (sym is ∙ q));
+          stays = λ q. absurd (refused_none f tt (sym is ∙ q));
+          within = λ g q. omega (arith, w, ap (λ (x : Result Unit RefusedAt). (told x).place) e, ap (λ (x : Result Unit RefusedAt). (told x).place) (sym is ∙ q));
         }
 
     module _ (passes : j ≡ Ok tt) where
@@ -152,26 +152,26 @@ module _ (stand : Stand) (v : View) (s : Sums) (o : Open) (d : Done) (kept : Kep
       not_bad q = bad_refused v (runs_of stand) (ap (judge_record v (runs_of stand)) (sym q ∙ sym read) ∙ is_fine)
 
       -- it is taken in, or one of a day's readings is refused
-      pub taken_step : (t : Result Taken RefusedAt) (o' : Open) (d' : Done) → Takes bytes r v s o d o' d' t → Stepped stand bytes t o' d'
+      pub taken_step : (t : Result Unit RefusedAt) (u : Taken) (o' : Open) (d' : Done) → Takes bytes r v s o d o' d' t u → Stepped stand bytes t u o' d'
       unfolding told fault_in ready fine
-      taken_step t o' d' takes =
-          let mine : Took stand bytes r t o' d' = takes stand ready in
+      taken_step t u o' d' takes =
+          let mine : Took stand bytes r t u o' d' = takes stand ready in
           let w : Within (length bytes) (told t) = subst (Within (length bytes)) (sym (mine.faults ∙ ap (judge_readings bytes) read)) (readings-within bytes) in
           record {
             faults = mine.faults ∙ judge-passed v (runs_of stand) bytes r read (told j) judged-here (ap (λ (x : Result Unit RefusedAt). (told x).number) passes) ∙ by_view;
-            stays = λ u q. (subst (λ (x : Record). Kept (taken stand bytes x) u.view u.sums o' d') read (mine.stays u q), record_whole bytes not_bad);
-            within = λ f q. omega (arith, w, ap (λ (x : Result Taken RefusedAt). (told x).place) q);
+            stays = λ q. (subst (λ (x : Record). Kept (taken stand bytes x) u.view u.sums o' d') read (mine.stays q), record_whole bytes not_bad);
+            within = λ f q. omega (arith, w, ap (λ (x : Result Unit RefusedAt). (told x).place) q);
           }
 
 -- ---- a turn of the loop
 module _ (file : List ℕ) (v : View) (s : Sums) (at : ℕ) (o : Open) (d : Done) (g : Going file v s at o d) (more : at < length file)
-    (t : Result Taken RefusedAt) (o' : Open) (d' : Done)
+    (t : Result Unit RefusedAt) (u : Taken) (o' : Open) (d' : Done)
   where
     abbrev bytes : List ℕ
     bytes = take (length file - at) (drop at file)
 
-    module _ (steps : Steps bytes v s o d o' d' t) where
-      mine : Stepped g.stand bytes t o' d'
+    module _ (steps : Steps bytes v s o d o' d' t u) where
+      mine : Stepped g.stand bytes t u o' d'
       mine = steps g.stand g.kept
 
       here-is : told t ≡ verdict file at g.stand
@@ -186,17 +186,17 @@ module _ (file : List ℕ) (v : View) (s : Sums) (at : ℕ) (o : Open) (d : Done
           sym g.rest ∙ walk_refused file at g.stand g.most more g.enough m ∙ ap (λ (y : Fault). Refused (at_place at y)) q ∙ ap Refused (rw (numbered f.refusal) refl)
 
       -- it is taken in, and the walk goes on behind it
-      pub turn_goes : (u : Taken) → t ≡ Ok u → Going file u.view u.sums (at + size_in bytes) o' d'
+      pub turn_goes : t ≡ Ok tt → Going file u.view u.sums (at + size_in bytes) o' d'
       unfolding told
-      turn_goes u e =
+      turn_goes e =
           let z : (verdict file at g.stand).number ≡ 0 = ap (λ (y : Fault). y.number) (sym here-is ∙ ap told e) in
           let on = walk-on file at g.stand g.most more g.enough z in
           let same = part-whole at file in
           record {
             stand = taken g.stand (here file at g.stand) (record_in (here file at g.stand));
             most = on.0;
-            kept = subst (λ (b : List ℕ). Kept (taken g.stand b (record_in b)) u.view u.sums o' d') same (mine.stays u e).0;
-            within = omega (arith, (mine.stays u e).1, ap length same, length-drop at file);
+            kept = subst (λ (b : List ℕ). Kept (taken g.stand b (record_in b)) u.view u.sums o' d') same (mine.stays e).0;
+            within = omega (arith, (mine.stays e).1, ap length same, length-drop at file);
             enough = omega (arith, on.2, ap size_in same);
             rest = ap (λ (b : List ℕ). walk file (records_from on.0 file (at + size_in b)) (taken g.stand (drop at file) (record_in (drop at file)))) same ∙ sym on.1 ∙ g.rest;
           }

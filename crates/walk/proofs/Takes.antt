@@ -58,7 +58,6 @@ use Rattle.hours.specs.States.{period_states}
 use Rattle.fuel.specs.Fuel.{fuel_figure, ash_of, InRange}
 use Rattle.rules.specs.OnPaper.{OnPaper}
 use Rattle.fuel.proofs.Figures.{line_figure, line_wanting, grams-fit}
-use Rattle.walk.proofs.Asked.{ok_is}
 use Rattle.walk.proofs.Views.{survey-count}
 
 -- ---- inside a line or between two
@@ -146,9 +145,9 @@ module _ (bytes : List ℕ) (v : View) (s : Sums) (o : Open) (d : Done) where
   judged stand r q e k = ap (judge_record v (runs_of stand)) (sym e) ∙ k.passed
 
   -- a record without readings to judge is taken in
-  took_other : (stand : Stand) (r q : Record) (t : Taken) (o' : Open) (d' : Done) → r ≡ q → judge_readings bytes q ≡ fine → Kept (taken stand bytes q) t.view t.sums o' d' → Took stand bytes r (Ok t) o' d'
+  took_other : (stand : Stand) (r q : Record) (t : Taken) (o' : Open) (d' : Done) → r ≡ q → judge_readings bytes q ≡ fine → Kept (taken stand bytes q) t.view t.sums o' d' → Took stand bytes r (Ok tt) t o' d'
   unfolding told fine
-  took_other stand r q t o' d' e j k = rw e (record { faults = sym j; stays = λ u w. subst (λ (z : Taken). Kept (taken stand bytes q) z.view z.sums o' d') (ok_is t u w) k })
+  took_other stand r q t o' d' e j k = rw e (record { faults = sym j; stays = λ _. k })
 
   -- ---- a head
   pub ready_head : (stand : Stand) (r : Record) (h : Head) → r ≡ OfHead h → Ready stand bytes r v s o d → (s.used ≤ most_hours) × (length o.concentrations ≡ most_hours) × (length o.flows ≡ most_hours)
@@ -158,7 +157,7 @@ module _ (bytes : List ℕ) (v : View) (s : Sums) (o : Open) (d : Done) where
       (λ done y. (y.books.used_most, y.long.concentrations, y.long.flows)) k.kept
 
   pub took_head : (stand : Stand) (r : Record) (h : Head) (flags' : List Bool) (conc' flow' : List ℕ) (t : Taken) → r ≡ OfHead h → Ready stand bytes r v s o d
-      → HeadTaken v s h false o.flags o.concentrations o.flows flags' conc' flow' t → Took stand bytes r (Ok t) (in_open o.runs o.measured o.states flags' conc' flow') d
+      → HeadTaken v s h false o.flags o.concentrations o.flows flags' conc' flow' t → Took stand bytes r (Ok tt) t (in_open o.runs o.measured o.states flags' conc' flow') d
   unfolding taken taken_between judge_readings
   took_head stand r h flags' conc' flow' t q k e =
       let ok = head_ok v (runs_of stand) h (judged stand r (OfHead h) q k) in
@@ -172,21 +171,21 @@ module _ (bytes : List ℕ) (v : View) (s : Sums) (o : Open) (d : Done) where
   unfolding view_of
   day_facts x done m e l n = (omega (arith, ap (λ (w : View). w.days) e, ap (λ (w : View). w.head.days) e), n ∙ ap (λ (w : View). w.days) e)
 
-  pub took_day : (stand : Stand) (r : Record) (m : Masks) (k' : Marks) (conc' flow' : List ℕ) (t : Result Taken Refused) → r ≡ OfDay m → Ready stand bytes r v s o d
-      → DayRead bytes v s m (marks_of o) o.concentrations o.flows k' conc' flow' t → Took stand bytes r t (open_in k' conc' flow') d
+  pub took_day : (stand : Stand) (r : Record) (m : Masks) (k' : Marks) (conc' flow' : List ℕ) (t : Result Unit Refused) (u : Taken) → r ≡ OfDay m → Ready stand bytes r v s o d
+      → DayRead bytes v s m (marks_of o) o.concentrations o.flows k' conc' flow' t u → Took stand bytes r t u (open_in k' conc' flow') d
   unfolding taken taken_inside judge_readings told fine
-  took_day stand r m k' conc' flow' t q k e =
+  took_day stand r m k' conc' flow' t u q k e =
       let ok = day_ok v (runs_of stand) m (judged stand r (OfDay m) q k) in
       let n = (day_in bytes m (sym k.read ∙ q)).1 in
       rw q (record {
         faults = e.faults;
-        stays = λ u w.
+        stays = λ w.
             subst (λ (fs : List Bool). Kept (taken stand bytes (OfDay m)) u.view u.sums (in_open k'.runs k'.measured k'.states fs conc' flow') d) (sym e.flags_stay)
             (in_line stand v k.kept.view ok.inside (λ a. Kept a v s o d → Kept (taken a bytes (OfDay m)) u.view u.sums (in_open k'.runs k'.measured k'.states o.flags conc' flow') d)
             (λ x done y.
             let f = day_facts x done m y.view ok.room ok.turn in
             kept-day x done bytes v s o d k'.runs k'.measured k'.states conc' flow' u y f.0 (sym (ap (λ (w : Masks). w.day) n) ∙ f.1)
-            (subst (λ (w : Masks). DayTaken bytes v s w o.runs o.measured o.states o.concentrations o.flows k'.runs k'.measured k'.states conc' flow' u) n (e.takes u w))
+            (subst (λ (w : Masks). DayTaken bytes v s w o.runs o.measured o.states o.concentrations o.flows k'.runs k'.measured k'.states conc' flow' u) n (e.takes w))
             (sym e.faults ∙ ap told w)) k.kept);
       })
 
@@ -212,7 +211,7 @@ module _ (bytes : List ℕ) (v : View) (s : Sums) (o : Open) (d : Done) where
   no_plant x done e z = empty_of x.plant (sym (survey-count x.plant) ∙ sym (ap (λ (w : View). w.plant.count) e) ∙ z)
 
   pub took_enforcement : (stand : Stand) (r : Record) (t : Survey) (k' : Marks) (conc' flow' : List ℕ) (u : Taken) → r ≡ OfEnforcement t → Ready stand bytes r v s o d
-      → SurveyTaken Enforcement v s t (marks_of o) o.concentrations o.flows k' conc' flow' u → Took stand bytes r (Ok u) (open_in k' conc' flow') d
+      → SurveyTaken Enforcement v s t (marks_of o) o.concentrations o.flows k' conc' flow' u → Took stand bytes r (Ok tt) u (open_in k' conc' flow') d
   unfolding taken taken_inside judge_readings
   took_enforcement stand r t k' conc' flow' u q k e =
       let ok = enforcement_ok v (runs_of stand) t (judged stand r (OfEnforcement t) q k) in
@@ -223,7 +222,7 @@ module _ (bytes : List ℕ) (v : View) (s : Sums) (o : Open) (d : Done) where
       kept-enforcement x done v s t o d y f.hour f.all_days f.room f.pair k' conc' flow' u (no_plant x done y.view ok.0) e) k.kept)
 
   pub took_plant : (stand : Stand) (r : Record) (t : Survey) (k' : Marks) (conc' flow' : List ℕ) (u : Taken) → r ≡ OfPlant t → Ready stand bytes r v s o d
-      → SurveyTaken Plant v s t (marks_of o) o.concentrations o.flows k' conc' flow' u → Took stand bytes r (Ok u) (open_in k' conc' flow') d
+      → SurveyTaken Plant v s t (marks_of o) o.concentrations o.flows k' conc' flow' u → Took stand bytes r (Ok tt) u (open_in k' conc' flow') d
   unfolding taken taken_inside judge_readings
   took_plant stand r t k' conc' flow' u q k e =
       let ok = plant_ok v (runs_of stand) t (judged stand r (OfPlant t) q k) in
@@ -234,7 +233,7 @@ module _ (bytes : List ℕ) (v : View) (s : Sums) (o : Open) (d : Done) where
       kept-plant x done v s t o d y f.hour f.all_days f.room f.pair k' conc' flow' u e) k.kept)
 
   -- ---- a batch
-  pub took_batch : (stand : Stand) (r : Record) (b : Batch) (u : Taken) → r ≡ OfBatch b → Ready stand bytes r v s o d → BatchTaken v s b u → Took stand bytes r (Ok u) o d
+  pub took_batch : (stand : Stand) (r : Record) (b : Batch) (u : Taken) → r ≡ OfBatch b → Ready stand bytes r v s o d → BatchTaken v s b u → Took stand bytes r (Ok tt) u o d
   unfolding taken taken_inside judge_readings view_of
   took_batch stand r b u q k e =
       let ok = batch-ok v (runs_of stand) b (judged stand r (OfBatch b) q k) in
@@ -274,7 +273,7 @@ module _ (bytes : List ℕ) (v : View) (s : Sums) (o : Open) (d : Done) where
 
   pub took_end : (stand : Stand) (r : Record) (conc' flow' : List ℕ) (d' : Done) (u : Taken) → r ≡ OfEnd → Ready stand bytes r v s o d
       → Closed v s o.runs o.measured o.states o.concentrations o.flows d conc' flow' d' u
-      → Took stand bytes r (Ok u) (in_open o.runs o.measured o.states o.flags conc' flow') d'
+      → Took stand bytes r (Ok tt) u (in_open o.runs o.measured o.states o.flags conc' flow') d'
   unfolding taken taken_inside taken_in_water judge_readings
   took_end stand r conc' flow' d' u q k e =
       let ok = end_ok v (runs_of stand) (judged stand r OfEnd q k) in
@@ -451,7 +450,7 @@ module _ (bytes : List ℕ) (v : View) (s : Sums) (o : Open) (d : Done) where
       (λ done y. (y.books.used_most, y.long.concentrations, y.long.flows)) k.kept
 
   pub took_outfall : (stand : Stand) (r : Record) (h : Outfall) (g : Head) (flags' : List Bool) (conc' flow' : List ℕ) (u : Taken) → r ≡ OfOutfallHead h → g ≡ as_head h → Ready stand bytes r v s o d
-      → HeadTaken v s g true o.flags o.concentrations o.flows flags' conc' flow' u → Took stand bytes r (Ok u) (in_open o.runs o.measured o.states flags' conc' flow') d
+      → HeadTaken v s g true o.flags o.concentrations o.flows flags' conc' flow' u → Took stand bytes r (Ok tt) u (in_open o.runs o.measured o.states flags' conc' flow') d
   unfolding taken taken_between judge_readings
   took_outfall stand r h g flags' conc' flow' u q p k e =
       let ok = outfall_ok v (runs_of stand) h (judged stand r (OfOutfallHead h) q k) in
@@ -481,7 +480,7 @@ module _ (bytes : List ℕ) (v : View) (s : Sums) (o : Open) (d : Done) where
       }) k.kept
 
   pub took_water_day : (stand : Stand) (r : Record) (t : WaterDay) (k' : Marks) (conc' flow' : List ℕ) (u : Taken) → r ≡ OfOutfallDay t → Ready stand bytes r v s o d
-      → WaterDayTaken v s t (marks_of o) o.concentrations o.flows k' conc' flow' u → Took stand bytes r (Ok u) (open_in k' conc' flow') d
+      → WaterDayTaken v s t (marks_of o) o.concentrations o.flows k' conc' flow' u → Took stand bytes r (Ok tt) u (open_in k' conc' flow') d
   unfolding taken taken_in_water judge_readings view_of as_head
   took_water_day stand r t k' conc' flow' u q k e =
       let ok = water_day-ok v (runs_of stand) t (judged stand r (OfOutfallDay t) q k) in
@@ -497,7 +496,7 @@ module _ (bytes : List ℕ) (v : View) (s : Sums) (o : Open) (d : Done) where
       ready_day_survey stand t v.enforcement.count (omega arith) (day_enforcement_ok v (runs_of stand) t (judged stand r (OfOutfallEnforcement t) q k)).1 k.kept
 
   pub took_day_enforcement : (stand : Stand) (r : Record) (t : Survey) (k' : Marks) (conc' flow' : List ℕ) (u : Taken) → r ≡ OfOutfallEnforcement t → Ready stand bytes r v s o d
-      → DaySurveyTaken Enforcement v s t (marks_of o) o.concentrations o.flows k' conc' flow' u → Took stand bytes r (Ok u) (open_in k' conc' flow') d
+      → DaySurveyTaken Enforcement v s t (marks_of o) o.concentrations o.flows k' conc' flow' u → Took stand bytes r (Ok tt) u (open_in k' conc' flow') d
   unfolding taken taken_in_water judge_readings view_of
   took_day_enforcement stand r t k' conc' flow' u q k e =
       let ok = day_enforcement_ok v (runs_of stand) t (judged stand r (OfOutfallEnforcement t) q k) in
@@ -512,7 +511,7 @@ module _ (bytes : List ℕ) (v : View) (s : Sums) (o : Open) (d : Done) where
   ready_day_plant stand r t q k = ready_day_survey stand t v.plant.count (omega arith) (day_plant_ok v (runs_of stand) t (judged stand r (OfOutfallPlant t) q k)) k.kept
 
   pub took_day_plant : (stand : Stand) (r : Record) (t : Survey) (k' : Marks) (conc' flow' : List ℕ) (u : Taken) → r ≡ OfOutfallPlant t → Ready stand bytes r v s o d
-      → DaySurveyTaken Plant v s t (marks_of o) o.concentrations o.flows k' conc' flow' u → Took stand bytes r (Ok u) (open_in k' conc' flow') d
+      → DaySurveyTaken Plant v s t (marks_of o) o.concentrations o.flows k' conc' flow' u → Took stand bytes r (Ok tt) u (open_in k' conc' flow') d
   unfolding taken taken_in_water judge_readings
   took_day_plant stand r t k' conc' flow' u q k e =
       let ok = day_plant_ok v (runs_of stand) t (judged stand r (OfOutfallPlant t) q k) in

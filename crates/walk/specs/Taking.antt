@@ -68,9 +68,9 @@ pub record DayTaken (bytes : List ℕ) (v : View) (s : Sums) (m : Masks) (runs m
   pub flow_now : flow' ≡ put_from (flow_at (day_of bytes)) hours_of_day (hours_of_day * m.day) flow
 
 -- a day is taken in, unless a reading is refused; no flag moves
-pub record DayRead (bytes : List ℕ) (v : View) (s : Sums) (m : Masks) (k : Marks) (conc flow : List ℕ) (k' : Marks) (conc' flow' : List ℕ) (r : Result Taken Refused) : Type 0 where
+pub record DayRead (bytes : List ℕ) (v : View) (s : Sums) (m : Masks) (k : Marks) (conc flow : List ℕ) (k' : Marks) (conc' flow' : List ℕ) (r : Result Unit Refused) (t : Taken) : Type 0 where
   pub faults : told r ≡ judge_hours (day_of bytes)
-  pub takes : (t : Taken) → r ≡ Ok t → DayTaken bytes v s m k.runs k.measured k.states conc flow k'.runs k'.measured k'.states conc' flow' t
+  pub takes : r ≡ Ok tt → DayTaken bytes v s m k.runs k.measured k.states conc flow k'.runs k'.measured k'.states conc' flow' t
   pub flags_stay : k'.flags ≡ k.flags
 
 -- a survey of an hour: a plant survey is beaten where an enforcement survey stands

@@ -29,13 +29,13 @@ pub record SomeReady (bytes : List ℕ) (r : Record) (v : View) (s : Sums) (o : 
   pub ready : Ready stand bytes r v s o d
 
 -- it is taken in, unless a day's reading is refused
-pub record Took (stand : Stand) (bytes : List ℕ) (r : Record) (t : Result Taken RefusedAt) (o : Open) (d : Done) : Type 0 where
+pub record Took (stand : Stand) (bytes : List ℕ) (r : Record) (t : Result Unit RefusedAt) (u : Taken) (o : Open) (d : Done) : Type 0 where
   pub faults : told t ≡ judge_readings bytes r
-  pub stays : (u : Taken) → t ≡ Ok u → Kept (taken stand bytes r) u.view u.sums o d
+  pub stays : t ≡ Ok tt → Kept (taken stand bytes r) u.view u.sums o d
 
 -- the promise of `take_in`: so wherever the walk stands
-abbrev pub Takes : List ℕ → Record → View → Sums → Open → Done → Open → Done → Result Taken RefusedAt → Type 0
-Takes bytes r v s o d o' d' t = (stand : Stand) → Ready stand bytes r v s o d → Took stand bytes r t o' d'
+abbrev pub Takes : List ℕ → Record → View → Sums → Open → Done → Open → Done → Result Unit RefusedAt → Taken → Type 0
+Takes bytes r v s o d o' d' t u = (stand : Stand) → Ready stand bytes r v s o d → Took stand bytes r t u o' d'
 
 -- the code's state stands for some lines
 pub record SomeKept (v : View) (s : Sums) (o : Open) (d : Done) : Type 0 where
@@ -43,14 +43,14 @@ pub record SomeKept (v : View) (s : Sums) (o : Open) (d : Done) : Type 0 where
   pub kept : Kept stand v s o d
 
 -- a record is read and judged as the rules do; one that is not refused is whole, and taken in
-pub record Stepped (stand : Stand) (bytes : List ℕ) (t : Result Taken RefusedAt) (o : Open) (d : Done) : Type 0 where
+pub record Stepped (stand : Stand) (bytes : List ℕ) (t : Result Unit RefusedAt) (u : Taken) (o : Open) (d : Done) : Type 0 where
   pub faults : told t ≡ judge (view_of stand) (runs_of stand) bytes
-  pub stays : (u : Taken) → t ≡ Ok u → Kept (taken stand bytes (record_in bytes)) u.view u.sums o d × (size_in bytes ≤ length bytes)
+  pub stays : t ≡ Ok tt → Kept (taken stand bytes (record_in bytes)) u.view u.sums o d × (size_in bytes ≤ length bytes)
   pub within : (f : RefusedAt) → t ≡ Err f → f.place ≤ length bytes
 
 -- the promise of `step`: so wherever the walk stands
-abbrev pub Steps : List ℕ → View → Sums → Open → Done → Open → Done → Result Taken RefusedAt → Type 0
-Steps bytes v s o d o' d' t = (stand : Stand) → Kept stand v s o d → Stepped stand bytes t o' d'
+abbrev pub Steps : List ℕ → View → Sums → Open → Done → Open → Done → Result Unit RefusedAt → Taken → Type 0
+Steps bytes v s o d o' d' t u = (stand : Stand) → Kept stand v s o d → Stepped stand bytes t u o' d'
 
 -- the code's state stands for some lines, from which the rules' walk goes on to the file's outcome
 pub record Going (file : List ℕ) (v : View) (s : Sums) (at : ℕ) (o : Open) (d : Done) : Type 0 where

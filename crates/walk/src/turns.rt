@@ -34,14 +34,14 @@ fn behind(f: Refused, at: usize) -> Refused
 // One record read, judged and taken in.
 fn step(
     bytes: &[u8],
-    t: Taken,
+    t: &mut Taken,
     marks: &mut Marks,
     conc: &mut [u32],
     flow: &mut [u32],
     done: &mut Done,
-) -> Result<Taken, Refused>
-    requires { SomeKept t.view t.sums (open_in marks.old conc.old flow.old) done.old }
-    ensures { Steps bytes.now t.view t.sums (open_in marks.old conc.old flow.old) done.old (open_in marks.new conc.new flow.new) done.new result }
+) -> Result<(), Refused>
+    requires { SomeKept t.old.view t.old.sums (open_in marks.old conc.old flow.old) done.old }
+    ensures { Steps bytes.now t.old.view t.old.sums (open_in marks.old conc.old flow.old) done.old (open_in marks.new conc.new flow.new) done.new result t.new }
 {
     let r = record::read_record(bytes);
     judged(t.view, &marks.runs, r)?;
@@ -71,7 +71,7 @@ pub fn walk_records(file: &[u8], conc: &mut [u32], flow: &mut [u32]) -> Result<W
     // Kept: a `while`, since each record says where the next begins.
     while at < file.len() {
         let bytes = &file[at..];
-        t = step(bytes, t, &mut marks, conc, flow, &mut done).map_err(|f| behind(f, at))?;
+        step(bytes, &mut t, &mut marks, conc, flow, &mut done).map_err(|f| behind(f, at))?;
         at += record::size_in(bytes);
     }
     if t.view.inside | t.view.water {

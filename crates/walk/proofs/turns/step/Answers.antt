@@ -12,7 +12,7 @@ judged-requires c = let p = c.requires in omega (arith, days_lent [] _ _ _ _ p.s
 pub returns-in_err-judged : goal.returns-in_err-judged
 returns-in_err-judged c =
     λ stand kept.
-    refused_step stand _ _ _ _ kept _ _ c.read_record-r.ensures _ c.judged.ensures _ c.in_err-judged.was _ (err_is _ _ c.from_residual.ensures.1) _ _
+    refused_step stand _ _ _ _ kept _ _ c.read_record-r.ensures _ c.judged.ensures _ c.in_err-judged.was _ (err_is _ _ c.from_residual.ensures.1) _ _ _
 
 pub take_in-requires : goal.take_in-requires
 take_in-requires c =
@@ -21,4 +21,4 @@ take_in-requires c =
 
 pub returns : goal.returns
 returns c =
-    λ stand kept. taken_step stand _ _ _ _ kept _ _ c.read_record-r.ensures _ c.judged.ensures c.in_ok-judged.was _ _ _ c.take_in.ensures
+    λ stand kept. taken_step stand _ _ _ _ kept _ _ c.read_record-r.ensures _ c.judged.ensures c.in_ok-judged.was _ _ _ _ c.take_in.ensures

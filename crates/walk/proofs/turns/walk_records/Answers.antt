@@ -19,29 +19,29 @@ loop-at-init c =
     let p = c.requires in
     (going_start _ _ _ _ _ refl c.default.ensures.1.1.1.1 refl refl refl refl p.0 p.1 refl refl, clear_long _ p.0, clear_long _ p.1)
 
-pub returns-in_err-t : goal.returns-in_err-t
-returns-in_err-t c =
+pub returns-in_err-map_err : goal.returns-in_err-map_err
+returns-in_err-map_err c =
     let i = c.loop-at.invariant in
-    let m = mapped_err _ c.step.result c.map_err.result c.map_err.ensures.cases _ c.in_err-t.was in
-    let q : c.in_err-t.field-0.0 ≡ behind c.loop-at.at m.0 = search rules in
+    let m = mapped_err _ c.step.result c.map_err.result c.map_err.ensures.cases _ c.in_err-map_err.was in
+    let q : c.in_err-map_err.field-0.0 ≡ behind c.loop-at.at m.0 = search rules in
     subst (WalkPromise _ _ _) (sym (err_is _ _ c.from_residual.ensures.1))
-    (turn_refused _ _ _ _ _ _ i.0 c.loop-at-test.true _ _ _ c.step.ensures m.0 m.1 ∙ ap (λ (f : Refused). Refuses (fault_in f)) (sym q))
+    (turn_refused _ _ _ _ _ _ i.0 c.loop-at-test.true _ _ _ _ c.step.ensures m.0 m.1 ∙ ap (λ (f : Refused). Refuses (fault_in f)) (sym q))
 
 pub overflow_add-at : goal.overflow_add-at
 overflow_add-at c =
     let i = c.loop-at.invariant in
-    let g = turn_goes _ _ _ _ _ _ i.0 c.loop-at-test.true _ _ _ c.step.ensures _ (mapped_ok _ c.step.result c.map_err.result c.map_err.ensures.cases _ c.in_ok-t.was) in
+    let g = turn_goes _ _ _ _ _ _ i.0 c.loop-at-test.true _ _ _ _ c.step.ensures (mapped_ok _ c.step.result c.map_err.result c.map_err.ensures.cases _ c.in_ok-map_err.was) in
     omega (arith, g.within, c.size_in.ensures, c)
 
 pub loop-at-smaller : goal.loop-at-smaller
 loop-at-smaller c =
     let i = c.loop-at.invariant in
-    omega (arith, turn_shorter _ _ _ _ _ _ i.0 c.loop-at-test.true _ _ _ c.step.ensures, c.size_in.ensures, c.loop-at-test.true)
+    omega (arith, turn_shorter _ _ _ _ _ _ i.0 c.loop-at-test.true _ _ _ _ c.step.ensures, c.size_in.ensures, c.loop-at-test.true)
 
 pub loop-at-preserved : goal.loop-at-preserved
 loop-at-preserved c =
     let i = c.loop-at.invariant in
-    let g = turn_goes _ _ _ _ _ _ i.0 c.loop-at-test.true _ _ _ c.step.ensures _ (mapped_ok _ c.step.result c.map_err.result c.map_err.ensures.cases _ c.in_ok-t.was) in
+    let g = turn_goes _ _ _ _ _ _ i.0 c.loop-at-test.true _ _ _ _ c.step.ensures (mapped_ok _ c.step.result c.map_err.result c.map_err.ensures.cases _ c.in_ok-map_err.was) in
     (rw c.size_in.ensures g, c.step.auto.conc ∙ i.1, c.step.auto.flow ∙ i.2)
 
 pub returns-then-t : goal.returns-then-t
