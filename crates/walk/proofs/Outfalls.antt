@@ -35,7 +35,7 @@ use Rattle.walk.specs.declared.books.Sums.{Sums}
 use Rattle.walk.specs.declared.books.Taken.{Taken}
 use Rattle.walk.specs.declared.books.Marks.{Marks}
 use Rattle.walk.specs.declared.books.Done.{Done}
-use Rattle.walk.specs.declared.books.By.TheVariants.{Enforcement, Plant}
+use Rattle.rules.specs.declared.Surveyor.TheVariants.{Enforcement, Plant}
 use Rattle.walk.specs.Views.{after_head, after_water_day, after_enforcement, after_plant, beats, after_end, with_survey}
 use Rattle.walk.specs.Books.{flag_at, Open, in_open, open_in, marks_of, Long, WaterBooks, Kept}
 use Rattle.walk.specs.Taking.{pair_c, pair_l, HeadTaken, WaterDayTaken, DaySurveyTaken, WaterEndTaken}

@@ -33,7 +33,7 @@ use Rattle.walk.specs.declared.books.Sums.{Sums}
 use Rattle.walk.specs.declared.books.Taken.{Taken}
 use Rattle.walk.specs.declared.books.Marks.{Marks}
 use Rattle.walk.specs.declared.books.Done.{Done}
-use Rattle.walk.specs.declared.books.By.TheVariants.{Enforcement, Plant}
+use Rattle.rules.specs.declared.Surveyor.TheVariants.{Enforcement, Plant}
 use Rattle.walk.specs.Views.{after_head, after_day, after_enforcement, after_plant, beats, after_batch, with_survey}
 use Rattle.walk.specs.Books.{put_from, in_cell, flag_at, Open, in_open, open_in, marks_of, Long, LineBooks, Kept}
 use Rattle.walk.proofs.Cleared.{cleared_all}

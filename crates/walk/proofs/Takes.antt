@@ -40,7 +40,7 @@ use Rattle.walk.specs.declared.books.Sums.{Sums}
 use Rattle.walk.specs.declared.books.Taken.{Taken}
 use Rattle.walk.specs.declared.books.Marks.{Marks}
 use Rattle.walk.specs.declared.books.Done.{Done}
-use Rattle.walk.specs.declared.books.By.TheVariants.{Enforcement, Plant}
+use Rattle.rules.specs.declared.Surveyor.TheVariants.{Enforcement, Plant}
 use Rattle.walk.specs.Books.{Open, in_open, open_in, marks_of, Kept}
 use Rattle.walk.specs.Taking.{HeadTaken, DayReady, DayTaken, DayRead, SurveyReady, SurveyTaken, BatchTaken, EndReady, EndTaken, CloseReady, Closed, WaterDayReady, WaterDayTaken, DaySurveyTaken, WaterEndReady, WaterEndTaken}
 use Rattle.walk.specs.Walking.{Ready, Took}

@@ -24,7 +24,7 @@ use Rattle.walk.specs.declared.books.Sums.{Sums}
 use Rattle.walk.specs.declared.books.Taken.{Taken}
 use Rattle.walk.specs.declared.books.Marks.{Marks}
 use Rattle.walk.specs.declared.books.Done.{Done}
-use Rattle.walk.specs.declared.books.By.{By}
+use Rattle.rules.specs.declared.Surveyor.{Surveyor}
 use Rattle.walk.specs.Views.{after_head, after_day, after_survey, beaten_by, flags_by, after_batch, after_end, after_water_day, opened_sums, with_survey, with_fuel}
 use Rattle.walk.specs.Closing.{grams_in, daily_grams, Limits, LineGrams, with_grams}
 use Rattle.fuel.specs.Fuel.{fuel_figure}
@@ -74,7 +74,7 @@ pub record DayRead (bytes : List ℕ) (v : View) (s : Sums) (m : Masks) (k : Mar
   pub flags_stay : k'.flags ≡ k.flags
 
 -- a survey of an hour: a plant survey is beaten where an enforcement survey stands
-pub record SurveyTaken (by : By) (v : View) (s : Sums) (t : Survey) (k : Marks) (conc flow : List ℕ) (k' : Marks) (conc' flow' : List ℕ) (r : Taken) : Type 0 where
+pub record SurveyTaken (by : Surveyor) (v : View) (s : Sums) (t : Survey) (k : Marks) (conc flow : List ℕ) (k' : Marks) (conc' flow' : List ℕ) (r : Taken) : Type 0 where
   pub weighed : Weighed
   pub put : SurveyPut t (beaten_by by k.flags t.hour) k.runs (in_tables k.measured k.states conc flow) (in_tables k'.measured k'.states conc' flow') weighed
   pub view : r.view ≡ after_survey by v t.hour weighed.found
@@ -154,7 +154,7 @@ pub record WaterDayTaken (v : View) (s : Sums) (d : WaterDay) (k : Marks) (conc 
   pub flags_stay : k'.flags ≡ k.flags
 
 -- a survey of a day
-pub record DaySurveyTaken (by : By) (v : View) (s : Sums) (t : Survey) (k : Marks) (conc flow : List ℕ) (k' : Marks) (conc' flow' : List ℕ) (r : Taken) : Type 0 where
+pub record DaySurveyTaken (by : Surveyor) (v : View) (s : Sums) (t : Survey) (k : Marks) (conc flow : List ℕ) (k' : Marks) (conc' flow' : List ℕ) (r : Taken) : Type 0 where
   pub weighed : Weighed
   pub put : DayPut t (beaten_by by k.flags t.hour) k.states conc flow k'.states conc' flow' weighed
   pub view : r.view ≡ after_survey by v t.hour weighed.found

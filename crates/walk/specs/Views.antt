@@ -13,8 +13,8 @@ use Rattle.rules.specs.Judge.{key}
 use Rattle.rules.specs.Walk.{no_head}
 use Rattle.line.specs.declared.surveyed.Weighed.{Weighed}
 use Rattle.walk.specs.declared.books.Sums.{Sums}
-use Rattle.walk.specs.declared.books.By.{By}
-use Rattle.walk.specs.declared.books.By.TheVariants.{Enforcement, Plant}
+use Rattle.rules.specs.declared.Surveyor.{Surveyor}
+use Rattle.rules.specs.declared.Surveyor.TheVariants.{Enforcement, Plant}
 
 -- no survey yet
 abbrev pub no_surveys : Surveys
@@ -86,11 +86,11 @@ abbrev pub after_plant : View → ℕ → ℕ → View
 after_plant v hour found = moved_view v v.days v.running (v.missing - found) v.enforcement (one_more v.plant hour) v.batches v.fuel
 
 -- by whose survey it is: the surveys of its kind so far, and the view after it
-abbrev pub surveys_by : By → View → Surveys
+abbrev pub surveys_by : Surveyor → View → Surveys
 surveys_by Enforcement v = v.enforcement
 surveys_by Plant v = v.plant
 
-abbrev pub after_survey : By → View → ℕ → ℕ → View
+abbrev pub after_survey : Surveyor → View → ℕ → ℕ → View
 after_survey Enforcement v hour found = after_enforcement v hour found
 after_survey Plant v hour found = after_plant v hour found
 
@@ -99,11 +99,11 @@ abbrev pub beats : List Bool → ℕ → Bool
 beats flags h = get_or flags h false
 
 -- whether a survey is beaten there, and the flags after it
-abbrev pub beaten_by : By → List Bool → ℕ → Bool
+abbrev pub beaten_by : Surveyor → List Bool → ℕ → Bool
 beaten_by Enforcement flags h = false
 beaten_by Plant flags h = beats flags h
 
-abbrev pub flags_by : By → List Bool → ℕ → List Bool
+abbrev pub flags_by : Surveyor → List Bool → ℕ → List Bool
 flags_by Enforcement flags h = set flags h true
 flags_by Plant flags h = flags
 
