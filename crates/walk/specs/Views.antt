@@ -113,10 +113,6 @@ after_batch v kg = moved_view v v.days v.running v.missing v.enforcement v.plant
 abbrev pub after_end : View → View
 after_end v = opened_view false false (v.lines + 1) v.floor no_head
 
--- no sums yet
-abbrev pub no_sums : Sums
-no_sums = record { surveyed = 0; weight = 0; sulphur = 0; ash = 0; used = 0 }
-
 -- the sums of a line that is opened: its period's cells will be used
 abbrev pub opened_sums : Head → Bool → Sums
 opened_sums h water = record { surveyed = 0; weight = 0; sulphur = 0; ash = 0; used = pick water h.days (hours_of_day * h.days) }
