@@ -1,11 +1,12 @@
 // The gaps of a line's two quantities. A state is 2 for a measured hour and 1 for a missing one; with any other the hour is stopped.
-ghost use Rattle.std.specs.Prelude.{◌≡◌, ◌≤◌, length};
+ghost use Rattle.std.specs.Prelude.{◌≡◌, [], ◌≤◌, length};
 ghost use Rattle.law.specs.Numbers.{most_hours};
 ghost use Rattle.fills.specs.Parts.{patched, Roomy, Gathered, Aside, FilledBoth, gap_fill};
 ghost use Rattle.fills.specs.Windows.{Peaked};
 
 use crate::fill::fill_of;
 use crate::stretch::{Gap, MEASURED, MISSING, filler, run_end, scan};
+use arrayvec::ArrayVec;
 
 // The valid values of both quantities, in their order, into the first cells of `cs` and `ls`; how many there are.
 fn gather(
@@ -31,39 +32,36 @@ fn gather(
     b
 }
 
-// The valid values of one quantity, in the order of the hours, and their peaks, of which so many are there.
-#[derive(Clone, Copy)]
+// The valid values of one quantity, in the order of the hours, and their peaks so far.
+#[derive(Drop)]
 struct Series<'a> {
     valid: &'a [u32],
-    peaks: [u32; 46],
-    peaked: usize,
+    peaks: ArrayVec<u32, 46>,
 }
 
 impl<'a> Series<'a> {
     fn new(valid: &'a [u32]) -> Series<'a>
-        ensures { (result.valid.now ≡ valid.entry.now) × (length result.peaks ≡ 46) × (result.peaked ≡ 0) }
+        ensures { (result.valid.now ≡ valid.entry.now) × (result.peaks.items ≡ []) }
     {
         Series {
             valid,
-            peaks: [0; 46],
-            peaked: 0,
+            peaks: ArrayVec::new(),
         }
     }
 
     // The cells of the gap at hour `first`; `b` of the valid values stand before the gap.
     fn fill(&mut self, states: &[u8], values: &mut [u32], first: usize, b: usize, gap: Gap)
         requires { ((first ≤ gap.next) × (gap.next ≤ length states.now) × (gap.next ≤ length values.old))
-            × (Peaked self.old.valid.now self.old.peaks self.old.peaked × (b ≤ length self.old.valid.now)) }
+            × (Peaked self.old.valid.now self.old.peaks.items × (b ≤ length self.old.valid.now)) }
         ensures { (values.new ≡ patched states.now (gap_fill gap.missing self.old.valid.now b) first gap.next values.old)
-            × Peaked self.old.valid.now self.new.peaks self.new.peaked × (self.new.valid.now ≡ self.old.valid.now) }
+            × Peaked self.old.valid.now self.new.peaks.items × (self.new.valid.now ≡ self.old.valid.now) }
     {
-        let found = fill_of(gap.missing, self.valid, b, &mut self.peaks, self.peaked);
-        self.peaked = found.peaked;
+        let value = fill_of(gap.missing, self.valid, b, &mut self.peaks);
         filler(
             &mut values[first..],
             &states[first..],
             gap.next - first,
-            found.value,
+            value,
         );
     }
 }
