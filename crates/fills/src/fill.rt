@@ -22,6 +22,7 @@ fn short_fill(valid: &[u32], b: usize) -> u32
     ensures { result ≡ short mean_up same (reverse (take b valid.now)) (drop b valid.now) }
 {
     let n = valid.len();
+    // Kept: a match on `last` and `get` was tried, and three goals of its proof did not close.
     if b == 0 {
         if n == 0 {
             return 0;

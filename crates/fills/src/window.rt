@@ -12,6 +12,7 @@ pub fn largest_of(values: &[u32]) -> u32
     ensures { result ≡ largest values.now }
 {
     let mut most = 0u32;
+    // Kept: `iter().max()` and a fold were tried, and the proof did not close.
     for value in values {
         most = most.max(*value);
     }
