@@ -21,19 +21,13 @@ fn short_fill(valid: &[u32], b: usize) -> u32
     requires { b ≤ length valid.now }
     ensures { result ≡ short mean_up same (reverse (take b valid.now)) (drop b valid.now) }
 {
-    let n = valid.len();
-    // Kept: a match on `last` and `get` was tried, and three goals of its proof did not close.
-    if b == 0 {
-        if n == 0 {
-            return 0;
-        }
-        return valid[0];
+    let (before, after) = valid.split_at(b);
+    match (before.last(), after.first()) {
+        (Some(last), Some(next)) => mean_up(*last, *next),
+        (Some(last), None) => *last,
+        (None, Some(next)) => *next,
+        (None, None) => 0,
     }
-    let last = valid[b - 1];
-    if b == n {
-        return last;
-    }
-    mean_up(last, valid[b])
 }
 
 // "With none before, of the first 720 after it, or all if fewer."
