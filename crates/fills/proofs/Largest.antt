@@ -72,10 +72,6 @@ unfolding largest
 largest-done s i e = ap (λ (k : ℕ). largest (drop k s)) e ∙ ap largest (drop-length s)
 
 -- a list by its ends
-pub none_of : (s : List ℕ) → length s ≡ 0 → s ≡ []
-none_of [] e = refl
-none_of (v ∷ s) e = absurd (let f : ⊥ = omega arith in f)
-
 pub last_before : (b : ℕ) (s : List ℕ) → 0 < b → b ≤ length s → reverse (take b s) ≡ get_or s (b - 1) 0 ∷ reverse (take (b - 1) s)
 last_before b s l m =
     let j = b - 1 in

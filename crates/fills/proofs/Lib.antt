@@ -1,6 +1,7 @@
 -- Laws about fills, each proved once; proofs of functions cite them, and so do the layers above.
 pub mod Neighbours
 pub mod Largest
+pub mod Short
 pub mod Limits
 pub mod Windows
 pub mod States

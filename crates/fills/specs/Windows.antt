@@ -8,9 +8,8 @@ use Rattle.law.specs.Words.{largest}
 abbrev pub span : List ℕ → ℕ → ℕ → ℕ
 span valid a b = largest (take (b - a) (drop a valid))
 
--- the first n peaks are there: the largest of the first 48 values, of the next 48, and so on; a quarter's hours have 46
-pub record Peaked (valid peaks : List ℕ) (n : ℕ) : Type 0 where
+-- the peaks so far: the largest of the first 48 values, of the next 48, and so on; a quarter's hours have 46
+pub record Peaked (valid peaks : List ℕ) : Type 0 where
   pub few : length valid ≤ most_hours
-  pub room : length peaks ≡ 46
-  pub inside : 48 * n ≤ length valid
-  pub each : (k : ℕ) → k < n → get_or peaks k 0 ≡ span valid (48 * k) (48 * k + 48)
+  pub inside : 48 * length peaks ≤ length valid
+  pub each : (k : ℕ) → k < length peaks → get_or peaks k 0 ≡ span valid (48 * k) (48 * k + 48)

@@ -7,13 +7,7 @@ ghost use Rattle.fills.specs.Parts.{gap_fill};
 ghost use Rattle.fills.specs.Windows.{Peaked};
 
 use crate::window::{largest_of, last_720, put_peaks};
-
-// A fill, and how many peaks of the valid values are there by then.
-#[derive(Clone, Copy)]
-pub struct Found {
-    pub value: u32,
-    pub peaked: usize,
-}
+use arrayvec::ArrayVec;
 
 // The mean, halves up.
 fn mean_up(before: u32, after: u32) -> u32
@@ -27,18 +21,13 @@ fn short_fill(valid: &[u32], b: usize) -> u32
     requires { b ≤ length valid.now }
     ensures { result ≡ short mean_up same (reverse (take b valid.now)) (drop b valid.now) }
 {
-    let n = valid.len();
-    if b == 0 {
-        if n == 0 {
-            return 0;
-        }
-        return valid[0];
+    let (before, after) = valid.split_at(b);
+    match (before.last(), after.first()) {
+        (Some(last), Some(next)) => mean_up(*last, *next),
+        (Some(last), None) => *last,
+        (None, Some(next)) => *next,
+        (None, None) => 0,
     }
-    let last = valid[b - 1];
-    if b == n {
-        return last;
-    }
-    mean_up(last, valid[b])
 }
 
 // "With none before, of the first 720 after it, or all if fewer."
@@ -48,26 +37,17 @@ fn first_720(valid: &[u32]) -> u32
     largest_of(&valid[..valid.len().min(720)])
 }
 
-// The fill of a gap of `gap` missing hours; of the peaks `n` are there already.
-pub fn fill_of(gap: usize, valid: &[u32], b: usize, peaks: &mut [u32], n: usize) -> Found
-    requires { Peaked valid.now peaks.old n × (b ≤ length valid.now) }
-    ensures { (result.value ≡ gap_fill gap valid.now b) × Peaked valid.now peaks.new result.peaked }
+// The fill of a gap of `gap` missing hours; the peaks that a gap before it needed are there already.
+pub fn fill_of(gap: usize, valid: &[u32], b: usize, peaks: &mut ArrayVec<u32, 46>) -> u32
+    requires { Peaked valid.now peaks.old.items × (b ≤ length valid.now) }
+    ensures { (result ≡ gap_fill gap valid.now b) × Peaked valid.now peaks.new.items }
 {
     if gap <= 24 {
-        return Found {
-            value: short_fill(valid, b),
-            peaked: n,
-        };
+        return short_fill(valid, b);
     }
     if 0 < b {
-        let peaked = put_peaks(valid, b, peaks, n);
-        return Found {
-            value: last_720(valid, b, peaks),
-            peaked,
-        };
+        put_peaks(valid, b, peaks);
+        return last_720(valid, b, peaks.as_slice());
     }
-    Found {
-        value: first_720(valid),
-        peaked: n,
-    }
+    first_720(valid)
 }

@@ -1,69 +1,59 @@
 // The gaps of a line's two quantities. A state is 2 for a measured hour and 1 for a missing one; with any other the hour is stopped.
-ghost use Rattle.std.specs.Prelude.{◌≡◌, ◌≤◌, length};
+ghost use Rattle.std.specs.Prelude.{◌≡◌, [], ◌≤◌, length};
 ghost use Rattle.law.specs.Numbers.{most_hours};
-ghost use Rattle.fills.specs.Parts.{patched, Roomy, Gathered, Aside, FilledBoth, gap_fill};
+ghost use Rattle.rules.specs.Slots.{valids};
+ghost use Rattle.fills.specs.Gaps.{row};
+ghost use Rattle.fills.specs.Parts.{patched, Aside, FilledBoth, gap_fill};
 ghost use Rattle.fills.specs.Windows.{Peaked};
 
 use crate::fill::fill_of;
 use crate::stretch::{Gap, MEASURED, MISSING, filler, run_end, scan};
+use arrayvec::ArrayVec;
 
-// The valid values of both quantities, in their order, into the first cells of `cs` and `ls`; how many there are.
-fn gather(
-    states: &[u8],
-    concentrations: &[u32],
-    flows: &[u32],
-    cs: &mut [u32],
-    ls: &mut [u32],
-) -> usize
-    requires { Roomy states.now concentrations.now flows.now cs.old ls.old }
-    ensures { Gathered states.now concentrations.now flows.now cs.new ls.new result }
+// The valid values of one quantity, in the order of the hours.
+fn valid_values(states: &[u8], values: &[u32]) -> ArrayVec<u32, 2208>
+    requires { (length states.now ≤ most_hours) × (length states.now ≤ length values.now) }
+    ensures { result.items ≡ valids (row states.now values.now) }
 {
-    let mut b = 0;
-    // Kept: a chain is no plainer, since an hour has its cell in three slices, and is written at another place of two.
+    let mut valid = ArrayVec::new();
     for i in 0..states.len() {
-        if states[i] != MEASURED {
-            continue;
+        if states[i] == MEASURED {
+            valid.push(values[i]);
         }
-        cs[b] = concentrations[i];
-        ls[b] = flows[i];
-        b += 1;
     }
-    b
+    valid
 }
 
-// The valid values of one quantity, in the order of the hours, and their peaks, of which so many are there.
-#[derive(Clone, Copy)]
+// The valid values of one quantity, in the order of the hours, and their peaks so far.
+#[derive(Drop)]
 struct Series<'a> {
     valid: &'a [u32],
-    peaks: [u32; 46],
-    peaked: usize,
+    peaks: ArrayVec<u32, 46>,
 }
 
 impl<'a> Series<'a> {
     fn new(valid: &'a [u32]) -> Series<'a>
-        ensures { (result.valid.now ≡ valid.entry.now) × (length result.peaks ≡ 46) × (result.peaked ≡ 0) }
+        ensures { (result.valid.now ≡ valid.entry.now) × (result.peaks.items ≡ []) }
     {
         Series {
             valid,
-            peaks: [0; 46],
-            peaked: 0,
+            peaks: ArrayVec::new(),
         }
     }
 
     // The cells of the gap at hour `first`; `b` of the valid values stand before the gap.
     fn fill(&mut self, states: &[u8], values: &mut [u32], first: usize, b: usize, gap: Gap)
         requires { ((first ≤ gap.next) × (gap.next ≤ length states.now) × (gap.next ≤ length values.old))
-            × (Peaked self.old.valid.now self.old.peaks self.old.peaked × (b ≤ length self.old.valid.now)) }
+            × (Peaked self.old.valid.now self.old.peaks.items × (b ≤ length self.old.valid.now)) }
         ensures { (values.new ≡ patched states.now (gap_fill gap.missing self.old.valid.now b) first gap.next values.old)
-            × Peaked self.old.valid.now self.new.peaks self.new.peaked × (self.new.valid.now ≡ self.old.valid.now) }
+            × Peaked self.old.valid.now self.new.peaks.items × (self.new.valid.now ≡ self.old.valid.now) }
     {
-        let found = fill_of(gap.missing, self.valid, b, &mut self.peaks, self.peaked);
-        self.peaked = found.peaked;
+        let value = fill_of(gap.missing, self.valid, b, &mut self.peaks);
         filler(
             &mut values[first..],
             &states[first..],
             gap.next - first,
-            found.value,
+            value,
         );
     }
 }
@@ -102,8 +92,7 @@ pub fn fill_gaps(states: &[u8], concentrations: &mut [u32], flows: &mut [u32])
     ensures { FilledBoth states.now concentrations.old flows.old concentrations.new flows.new }
 {
     // The valid values are kept aside before a cell is written, so that no fill feeds another.
-    let mut cs = [0u32; 2208];
-    let mut ls = [0u32; 2208];
-    let count = gather(states, concentrations, flows, &mut cs, &mut ls);
-    fill_along(states, concentrations, flows, &cs[..count], &ls[..count]);
+    let cs = valid_values(states, concentrations);
+    let ls = valid_values(states, flows);
+    fill_along(states, concentrations, flows, cs.as_slice(), ls.as_slice());
 }

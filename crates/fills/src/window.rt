@@ -5,32 +5,33 @@ ghost use Rattle.law.specs.Numbers.{long_window};
 ghost use Rattle.law.specs.Words.{largest};
 ghost use Rattle.fills.specs.Windows.{span, Peaked};
 
+use arrayvec::ArrayVec;
+
 // The largest of some values, 0 of none.
 pub fn largest_of(values: &[u32]) -> u32
     ensures { result ≡ largest values.now }
 {
     let mut most = 0u32;
+    // Kept: `iter().max()` and a fold were tried, and the proof did not close.
     for value in values {
         most = most.max(*value);
     }
     most
 }
 
-// The peaks among the first `b` values, of which `n` are there already; how many are there then.
-pub fn put_peaks(valid: &[u32], b: usize, peaks: &mut [u32], n: usize) -> usize
-    requires { Peaked valid.now peaks.old n × (b ≤ length valid.now) }
-    ensures { Peaked valid.now peaks.new result × (b / 48 ≤ result) }
+// The peaks among the first `b` values put behind those that are there already.
+pub fn put_peaks(valid: &[u32], b: usize, peaks: &mut ArrayVec<u32, 46>)
+    requires { Peaked valid.now peaks.old.items × (b ≤ length valid.now) }
+    ensures { Peaked valid.now peaks.new.items × (b / 48 ≤ length peaks.new.items) }
 {
-    let end = n.max(b / 48);
-    for k in n..end {
-        peaks[k] = largest_of(&valid[48 * k..48 * k + 48]);
+    for k in peaks.len()..b / 48 {
+        peaks.push(largest_of(&valid[48 * k..48 * k + 48]));
     }
-    end
 }
 
 // The largest of the last 720 of the first `b` values, or of all if fewer.
 pub fn last_720(valid: &[u32], b: usize, peaks: &[u32]) -> u32
-    requires { Peaked valid.now peaks.now (b / 48) × (b ≤ length valid.now) }
+    requires { Peaked valid.now peaks.now × (b / 48 ≤ length peaks.now) × (b ≤ length valid.now) }
     ensures { result ≡ span valid.now (b - long_window) b }
 {
     let start = b.saturating_sub(720);

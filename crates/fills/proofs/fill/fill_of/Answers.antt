@@ -9,7 +9,6 @@ use Rattle.law.specs.Words.{largest}
 use Rattle.law.proofs.Tests.{pick_le, pick_not_le}
 use Rattle.rules.specs.Fill.{window, long, fill, mean_up, same}
 use Rattle.fills.proofs.Largest.{largest-before, last_before}
-use Rattle.fills.proofs.Windows.{fewer_peaks}
 use Rattle.fills.proofs.fill.fill_of.Goals as goal
 
 pub returns-then-gap-le24 : goal.returns-then-gap-le24
@@ -20,8 +19,8 @@ returns-then-gap-le24 c =
 
 pub last_720-requires : goal.last_720-requires
 last_720-requires c =
-    let e = c.put_peaks-peaked.ensures in
-    (fewer_peaks _ _ _ e.0 _ e.1, c.requires.1)
+    let e = c.put_peaks.ensures in
+    rw c.as_slice.ensures.value (e.0, e.1, c.requires.1)
 
 pub returns-then-b-gt0 : goal.returns-then-b-gt0
 unfolding fill long window same
@@ -32,7 +31,7 @@ returns-then-b-gt0 c =
     let more : 24 < a.gap = omega (arith, c.if-gap-le24.false) in
     let last = last_before a.b v c.if-b-gt0.true fits in
     let is = c.last_720.ensures ∙ largest-before long_window a.b v fits ∙ ap (λ (u : List ℕ). largest (take long_window u)) last in
-    (pick_not_le _ _ _ _ _ more (is ∙ sym (ap (λ (u : List ℕ). long mean_up same u (drop a.b v)) last)), c.put_peaks-peaked.ensures.0)
+    (pick_not_le _ _ _ _ _ more (is ∙ sym (ap (λ (u : List ℕ). long mean_up same u (drop a.b v)) last)), c.put_peaks.ensures.0)
 
 pub returns : goal.returns
 unfolding fill long window same

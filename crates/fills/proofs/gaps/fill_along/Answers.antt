@@ -10,7 +10,7 @@ use Rattle.fills.proofs.gaps.fill_along.Goals as goal
 pub loop-i-init : goal.loop-i-init
 loop-i-init c =
     let p = c.requires in
-    (search rules, stand_start _ _ _ p.0.0 p.0.2, stand_start _ _ _ p.0.1 p.0.3, no_peak-yet _ _ _ _ p.1 c.new-c.ensures, no_peak-yet _ _ _ _ p.2 c.new-l.ensures, c.new-c.ensures.0, c.new-l.ensures.0)
+    (search rules, stand_start _ _ _ p.0.0 p.0.2, stand_start _ _ _ p.0.1 p.0.3, no_peak-yet _ _ _ p.1 c.new-c.ensures, no_peak-yet _ _ _ p.2 c.new-l.ensures, c.new-c.ensures.0, c.new-l.ensures.0)
 
 pub loop-i-smaller-then-s-eq-MEASURED : goal.loop-i-smaller-then-s-eq-MEASURED
 loop-i-smaller-then-s-eq-MEASURED c =
@@ -37,13 +37,13 @@ pub fill-requires : goal.fill-requires
 fill-requires c =
     let l = c.loop-i in
     let s = c.scan-gap.ensures in
-    ((omega (arith, s.begins), s.ends, omega (arith, s.ends)), of_same _ _ _ _ _ l.invariant.5 l.invariant.3 l.invariant.1.in_kept)
+    ((omega (arith, s.begins), s.ends, omega (arith, s.ends)), of_same _ _ _ _ l.invariant.5 l.invariant.3 l.invariant.1.in_kept)
 
 pub fill-requires-then-s-eq-MISSING : goal.fill-requires-then-s-eq-MISSING
 fill-requires-then-s-eq-MISSING c =
     let l = c.loop-i in
     let s = c.scan-gap.ensures in
-    ((omega (arith, s.begins), s.ends, omega (arith, s.ends)), of_same _ _ _ _ _ l.invariant.6 l.invariant.4 l.invariant.2.in_kept)
+    ((omega (arith, s.begins), s.ends, omega (arith, s.ends)), of_same _ _ _ _ l.invariant.6 l.invariant.4 l.invariant.2.in_kept)
 
 pub overflow_sub-empty : goal.overflow_sub-empty
 overflow_sub-empty c =

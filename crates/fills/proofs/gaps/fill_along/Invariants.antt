@@ -9,7 +9,7 @@ use Rattle.fills.proofs.gaps.fill_along.Given as goal
 abbrev pub invariant-loop-i : goal.invariant-loop-i
 invariant-loop-i l =
     (l.empty ≤ l.i) × Stand l.states l.initial.concentrations l.cs l.concentrations (l.i - l.empty) l.i × Stand l.states l.initial.flows l.ls l.flows (l.i - l.empty) l.i
-    × Peaked l.cs l.c.peaks l.c.peaked × Peaked l.ls l.l.peaks l.l.peaked × (l.c.valid.now ≡ l.cs) × (l.l.valid.now ≡ l.ls)
+    × Peaked l.cs l.c.peaks.items × Peaked l.ls l.l.peaks.items × (l.c.valid.now ≡ l.cs) × (l.l.valid.now ≡ l.ls)
 
 abbrev pub decreases-loop-i : goal.decreases-loop-i
 decreases-loop-i l =

@@ -5,4 +5,4 @@ use Rattle.fills.specs.Windows.{Peaked}
 use Rattle.fills.proofs.window.put_peaks.Given as goal
 
 abbrev pub invariant-loop-k : goal.invariant-loop-k
-invariant-loop-k l = (length l.peaks ≡ length l.initial.peaks) × Peaked l.valid l.peaks l.k
+invariant-loop-k l = (l.k ≡ length l.peaks.items) × Peaked l.valid l.peaks.items

@@ -8,8 +8,8 @@ use Rattle.fills.proofs.gaps.Series.fill.Goals as goal
 pub returns : goal.returns
 returns c =
     let a = c.args in
-    let e = c.fill_of-found.ensures in (
-      part_filled a.states.now a.values.now _ c.fill_of-found.result.value a.first a.gap.next c.filler.ensures
+    let e = c.fill_of-value.ensures in (
+      part_filled a.states.now a.values.now _ c.fill_of-value.result a.first a.gap.next c.filler.ensures
           ∙ ap (λ (z : ℕ). patched a.states.now z a.first a.gap.next a.values.now) e.0,
       e.1,
       refl,
