@@ -88,8 +88,8 @@ def definitions(lines):
         lines.append('%s: %s' % (c, ' '.join(deps[c])))
     base.append(definition('text', ['Numbers', 'Line', 'Opened'], 'law rules', lines))
     base.append(definition('printed', ['Program', 'Opened'], 'law rules text', lines))
-    base.append(definition('import', ['Line', 'Nearest', 'Computed', 'Import', 'Opened'], 'law field reading', lines))
-    base.append(definition('filing', ['Filing', 'Opened'], 'law', lines))
+    base.append(definition('import', ['Line', 'Nearest', 'Computed', 'Import', 'Opened'], 'law field reading rules', lines))
+    base.append(definition('filing', ['Filing', 'Opened'], 'law rules', lines))
     base.append(definition('filed', ['Filed', 'Said', 'Opened'], 'law rules text filing', lines))
     return base
 
