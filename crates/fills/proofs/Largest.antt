@@ -3,18 +3,29 @@ use mathlib.Core.Path.{◌≡◌, refl, ◌∙◌, sym, ap}
 use mathlib.Core.List.{List, [], ◌∷◌, ◌++◌, reverse, reverse-cons, reverse-append}
 use mathlib.Core.Bool.{Bool, true, false}
 use Prim.Native.Nat.{ℕ, suc, ◌+◌, ◌-◌, ◌<◌, ◌≤◌, min, max}
-use native.Mathlib.Numerals.{add-one}
 use native.Mathlib.Omega.{arith}
 use lib.ListN.{length, get_or, take, drop, length-drop, length-reverse, take-append-drop}
-use lib.Seq.{drop-cons, take-suc, take_at, take_all, take-length, take-add, drop_at, drop-length, length-take-le}
+use lib.Seq.{take-suc, take_at, take_all, take-length, take-add, drop_at, length-take-le}
 use lib.Dec.{leb}
 use borrow.Author.Tests.{leb-true, leb-false}
+use Rattle.std.specs.Prelude.{unwrap_or, fold}
+use Rattle.std.specs.List.{reduce}
 use Rattle.law.specs.Words.{largest}
 
 pub largest-append : (s t : List ℕ) → largest (s ++ t) ≡ max (largest s) (largest t)
 unfolding largest
 largest-append [] t = omega arith
 largest-append (v ∷ s) t = omega (arith, largest-append s t)
+
+most_of : (v : ℕ) (s : List ℕ) → fold max v s ≡ max v (largest s)
+unfolding largest
+most_of v [] = omega arith
+most_of v (w ∷ s) = omega (arith, most_of (max v w) s)
+
+pub largest_is : (s : List ℕ) → unwrap_or (reduce max s) 0 ≡ largest s
+unfolding largest
+largest_is [] = refl
+largest_is (v ∷ s) = most_of v s
 
 pub largest-reverse : (s : List ℕ) → largest (reverse s) ≡ largest s
 unfolding largest
@@ -57,19 +68,6 @@ largest-before w b s l =
     ∙ largest-last (b - a) t (omega arith)
     ∙ ap (λ (k : ℕ). largest (take k (reverse t))) (let z : b - a ≡ min (length (reverse t)) w = omega arith in z)
     ∙ ap largest (take-few w (reverse t))
-
--- one turn of the search, and its end
-pub largest-from : (s : List ℕ) (i : ℕ) → i < length s → largest (drop i s) ≡ max (get_or s i 0) (largest (drop (i + 1) s))
-unfolding largest
-largest-from s i l = ap largest (drop-cons s i 0 l) ∙ ap (λ (k : ℕ). max (get_or s i 0) (largest (drop k s))) (sym (add-one i))
-
--- the largest so far and of those left
-pub largest-turn : (s : List ℕ) (i r v : ℕ) → i < length s → v ≡ max r (get_or s i 0) → max r (largest (drop i s)) ≡ largest s → max v (largest (drop (i + 1) s)) ≡ largest s
-largest-turn s i r v l e h = omega (arith, e, h, largest-from s i l)
-
-pub largest-done : (s : List ℕ) (i : ℕ) → i ≡ length s → largest (drop i s) ≡ 0
-unfolding largest
-largest-done s i e = ap (λ (k : ℕ). largest (drop k s)) e ∙ ap largest (drop-length s)
 
 -- a list by its ends
 pub last_before : (b : ℕ) (s : List ℕ) → 0 < b → b ≤ length s → reverse (take b s) ≡ get_or s (b - 1) 0 ∷ reverse (take (b - 1) s)

@@ -11,12 +11,7 @@ use arrayvec::ArrayVec;
 pub fn largest_of(values: &[u32]) -> u32
     ensures { result ≡ largest values.now }
 {
-    let mut most = 0u32;
-    // Kept: `iter().max()` and a fold were tried, and the proof did not close.
-    for value in values {
-        most = most.max(*value);
-    }
-    most
+    values.iter().copied().max().unwrap_or(0)
 }
 
 // The peaks among the first `b` values put behind those that are there already.

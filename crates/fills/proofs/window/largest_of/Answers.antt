@@ -1,12 +1,12 @@
--- `fills::window::largest_of` meets its contract: the largest so far and of those left. Assumes nothing.
-use native.Mathlib.Omega.{arith}
-use Rattle.fills.proofs.Largest.{largest-turn, largest-done}
+-- `fills::window::largest_of` meets its contract. Assumes nothing.
+use Rattle.std.proofs.Common.{sym, ap, ◌∙◌, unwrap_or}
+use Rattle.std.proofs.lemmas.Iterator.{YieldsList-from_slice}
+use Rattle.std.proofs.lemmas.Iterator.Adapters.{option_map_id}
+use Rattle.std.proofs.lemmas.Iterator.Consumers.{YieldsList-from_copied, max_from_yields_List}
+use Rattle.fills.proofs.Largest.{largest_is}
 use Rattle.fills.proofs.window.largest_of.Goals as goal
-
-pub loop-value-preserved : goal.loop-value-preserved
-loop-value-preserved c = largest-turn _ _ _ _ (omega arith) c.max-most.ensures c.loop-value.invariant
 
 pub returns : goal.returns
 returns c =
-    let l = c.loop-value in
-    omega (arith, l.invariant, largest-done c.args.values.now l.value-index (omega arith))
+    let most = sym (option_map_id _) ∙ max_from_yields_List _ _ c.max.ensures.ran (YieldsList-from_copied (YieldsList-from_slice c.args.values.now cc)) in
+    c.unwrap_or.ensures ∙ ap (λ o. unwrap_or o 0) most ∙ largest_is c.args.values.now
