@@ -21,7 +21,7 @@ fn is_survey(s: &[u8], kind: u16, hour: u16, at: usize) -> bool
 }
 
 // The first block that is a survey of that kind and hour.
-// Kept: numbers of blocks and no `chunks_exact`: `position` over those was tried, and its clause stayed open.
+// Kept: numbers of blocks and no `chunks_exact`: `position` over those was tried, and the clause, which counts from the start of the slice, stayed open.
 fn first_block(s: &[u8], kind: u16, hour: u16) -> Option<usize>
     ensures { MatchOption result ((k : ℕ) → k < length s.now / 14 → is_survey s.now kind hour (14 * k) ≡ false)
         (λ b. (b < length s.now / 14) × (is_survey s.now kind hour (14 * b) ≡ true)
