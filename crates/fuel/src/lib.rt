@@ -17,6 +17,7 @@ pub enum NoFigure {
 }
 
 // n / d in whole grams, halves up.
+// Kept: apart from the walk's `grams_of` (decision 37), whose larger sums are never doubled: a public function for both lines would be no plainer.
 #[tactic(auto, unfolding(law::specs::Words::halves_up))]
 fn halves_up(n: u64, d: u64) -> u64
     requires { (0 < d) × (d ≤ 1_000_000) × (n ≤ 4_000_000_000_000_000_000) }
@@ -54,6 +55,7 @@ fn figure(h: Head, kg: u64, sulphur: u16, ash: u64) -> Result<u64, NoFigure>
 }
 
 // The grams of a line from its kg, its largest sulphur and its sum of kg x ash.
+// Kept: the limits stand in `judge` too, for a record's fields: neither crate stands on the other, and `fuel_figure` promises them for every call.
 #[tactic(auto, unfolding(crate::specs::Fuel::fuel_figure, crate::specs::Fuel::fuel_on_paper, law::specs::Words::need_all, law::specs::Words::need))]
 pub fn fuel_figure(h: Head, kg: u64, sulphur: u16, ash: u64) -> Result<u64, NoFigure>
     ensures { fuel_on_paper result ≡ fuel_figure h kg sulphur ash }

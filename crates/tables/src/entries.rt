@@ -21,6 +21,7 @@ const Q3: [Option<u32>; 4] = [Some(25), None, Some(20), Some(20)];
 const K: [Option<u32>; 3] = [Some(90), Some(90), Some(85)];
 
 // Place 1, 2, .. of a row, and none at 0 or past its end.
+// Kept: the place as the head's byte: `coefficients` answers every head, and a byte that is no code has no entry.
 #[tactic(auto, using(crate::proofs::Rows::at_cell), unfolding(rules::specs::Tables::at))]
 pub fn at_place(place: u8, row: &[Option<u32>]) -> Option<u32>
     ensures { result ≡ at place row.now }
@@ -29,6 +30,7 @@ pub fn at_place(place: u8, row: &[Option<u32>]) -> Option<u32>
 }
 
 // q, by furnace and coal.
+// Kept: codes as bytes, as in `coefficients`, which answers every head.
 #[tactic(auto, unfolding(rules::specs::Tables::q, law::specs::Words::pick, law::specs::Words::need))]
 pub fn q_entry(furnace: u8, coal: u8) -> Option<u32>
     ensures { result ≡ q furnace coal }
