@@ -19,13 +19,14 @@ fn with_bit(hour: usize, mask: u32) -> u32
 fn put_mask(masks: &mut [u32], day: usize, mask: u32)
     ensures { masks.new ≡ set masks.old day mask }
 {
-    // Kept: of a write through `get_mut` no proof knows what the slice holds.
+    // Kept: of a write through `get_mut` no proof knows what the slice holds. Not shared with `put` of `line`: a public call more is no plainer.
     if day < masks.len() {
         masks[day] = mask;
     }
 }
 
-// The measured bit of an hour set, and how many missing hours fewer its day has, by the ones of its masks. Most surveys lie in measured hours: there nothing moves.
+// The measured bit of an hour set, and how many missing hours fewer its day has, by the ones of its masks. Most surveys lie in measured hours: there nothing
+// moves.
 pub fn mark_measured(runs: &[u32], measured: &mut [u32], hour: u16) -> u32
     ensures { Marked hour runs.now measured.old measured.new result }
 {

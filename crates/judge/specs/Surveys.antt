@@ -8,8 +8,8 @@ use Rattle.rules.specs.Hours.{runs_at}
 use Rattle.rules.specs.Judge.{first, place_enforcement, place_plant, judge_survey, judge_day_survey, runs_on}
 use Rattle.rules.specs.declared.Surveyor.{Surveyor}
 use Rattle.rules.specs.declared.Surveyor.TheVariants.{Enforcement, Plant}
-use Rattle.judge.specs.declared.surveys.World.{World}
-use Rattle.judge.specs.declared.surveys.World.TheVariants.{Air, Water}
+use Rattle.rules.specs.declared.World.{World}
+use Rattle.rules.specs.declared.World.TheVariants.{Air, Water}
 
 -- 2, by its kind
 abbrev pub place_survey : Surveyor → Bool → View → Survey → Fault

@@ -6,6 +6,7 @@ ghost use Rattle.rules.specs.Method.{method_of, daily_method_of};
 use rules::{Head, Method};
 
 // The method of a line by its head, its surveys and its hours. In 64 bits, so that the product cannot wrap.
+// Kept: the head's codes as bytes: `judge_record` and `open_method` take every head, also with codes that are none.
 pub fn method_of(head: Head, surveys: u64, running: u32, missing: u32) -> Method
     ensures { method_number (Some result) ≡ method_of head surveys running missing }
 {

@@ -5,49 +5,41 @@ ghost use Rattle.rules.specs.Fields.{survey_fields};
 ghost use Rattle.rules.specs.Judge.{first, first_wrong, runs_on};
 ghost use Rattle.judge.specs.Surveys.{place_survey, inside_of, period_of, runs_in, judge_survey_of};
 
-use rules::{Refusal, Refused, Survey, Surveyor, View, ensure};
+use rules::{Refusal, Refused, Survey, Surveyor, View, World, ensure};
 
-// What a survey names: an hour of a stack, or a day of an outfall.
-#[derive(Clone, Copy)]
-pub enum World {
-    Air,
-    Water,
+// Whether the line that is open is of a world.
+fn is_open(world: World, v: View) -> bool
+    ensures { result ≡ inside_of world v }
+{
+    match world {
+        World::Air => v.inside,
+        World::Water => v.water,
+    }
 }
 
-impl World {
-    // Whether the line that is open is of this world.
-    fn is_open(self, v: View) -> bool
-        ensures { result ≡ inside_of self v }
-    {
-        match self {
-            World::Air => v.inside,
-            World::Water => v.water,
-        }
+// The hours or days of the line's period.
+fn period(world: World, v: View) -> u32
+    ensures { result ≡ period_of world v }
+{
+    let days = u32::from(v.head.days);
+    match world {
+        World::Air => 24 * days,
+        World::Water => days,
     }
+}
 
-    // The hours or days of the line's period.
-    fn period(self, v: View) -> u32
-        ensures { result ≡ period_of self v }
-    {
-        let days = u32::from(v.head.days);
-        match self {
-            World::Air => 24 * days,
-            World::Water => days,
-        }
-    }
-
-    // Whether an hour or a day of the period so far runs: by the run masks of the days of a stack, by the states of those of an outfall.
-    fn runs(self, runs: &[u32], at: u16) -> bool
-        ensures { result ≡ runs_in self runs.now at }
-    {
-        match self {
-            World::Air => hours::runs_at(runs, at),
-            World::Water => runs_on(runs, at),
-        }
+// Whether an hour or a day of the period so far runs: by the run masks of the days of a stack, by the states of those of an outfall.
+fn runs_at(world: World, runs: &[u32], at: u16) -> bool
+    ensures { result ≡ runs_in world runs.now at }
+{
+    match world {
+        World::Air => hours::runs_at(runs, at),
+        World::Water => runs_on(runs, at),
     }
 }
 
 // The state of a day of the period so far is not 0; past it no day runs.
+// Kept: states as numbers: `judge_record` takes every one, in the slice that has a stack's masks.
 fn runs_on(states: &[u32], day: u16) -> bool
     ensures { result ≡ runs_on states.now day }
 {
@@ -90,7 +82,7 @@ pub fn judge_survey(
 ) -> Result<(), Refused>
     ensures { told result ≡ judge_survey_of world by v runs.now s }
 {
-    place_survey(by, world.is_open(v), v, s)?;
-    range_survey(world.period(v), s)?;
-    ensure(world.runs(runs, s.hour), Refusal::StoppedHour, 0)
+    place_survey(by, is_open(world, v), v, s)?;
+    range_survey(period(world, v), s)?;
+    ensure(runs_at(world, runs, s.hour), Refusal::StoppedHour, 0)
 }

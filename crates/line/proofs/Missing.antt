@@ -1,5 +1,5 @@
 -- The first missing day of an outfall's line: among the days that have a state, and none behind them. Assumes nothing.
-use mathlib.Core.Path.{◌≡◌, refl, ◌∙◌, sym}
+use mathlib.Core.Path.{◌≡◌, refl, ap, ◌∙◌, sym}
 use mathlib.Core.Bool.{Bool, true, false}
 use mathlib.Core.List.{List}
 use Prim.Native.Nat.{ℕ, ◌+◌, ◌<◌, ◌≤◌, min}
@@ -19,11 +19,15 @@ unfolding pick
 hit_by true = refl
 hit_by false = refl
 
--- a day counts as the byte of its test
-pub byte-of : (t : Bool) → bool_byte t ≡ pick t 1 0
+byte-of : (t : Bool) → bool_byte t ≡ pick t 1 0
 unfolding pick
 byte-of true = refl
 byte-of false = refl
+
+-- a day counts as the byte of its test
+pub found_on : (states : List ℕ) (day d n : ℕ) (t : Bool) → n ≡ bool_byte t → t ≡ eqb (get_or states d 0) 1 → d ≡ day → n ≡ lacks_on states day
+unfolding lacks_on
+found_on states day d n t e f g = e ∙ byte-of t ∙ ap (λ (b : Bool). pick b 1 0) (f ∙ ap (λ (k : ℕ). eqb (get_or states k 0) 1) g)
 
 module _ (states : List ℕ) where
   hit_is : (day : ℕ) → eqb (lacks_on states day) 1 ≡ eqb (get_or states day 0) 1

@@ -13,6 +13,7 @@ use rules::View;
 pub use surveyed::{Weighed, put_survey};
 
 // "Stack, pollutant, method, grams, running, missing, first missing hour plus 1."
+// Kept: the method and the first missing hour as numbers, 0 for none: this public call takes every number, and its row is made of them.
 pub fn row_of(v: View, method: u32, grams: u64, first: u32) -> [u64; 7]
     ensures { result ≡ row_in v method grams first }
 {

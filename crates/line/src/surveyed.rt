@@ -6,6 +6,7 @@ use crate::marked::put;
 use rules::Survey;
 
 // What a survey adds to those of a line: one hour and its c x l, or nothing; and how many missing hours fewer the line has.
+// Kept: a count of 1 or 0 and no Option: `put_survey` and `put_on_day` promise the three numbers, all 0 for one that is beaten (`nothing`).
 #[derive(Clone, Copy, Debug, Default, PartialEq, Eq)]
 pub struct Weighed {
     pub count: u32,
@@ -14,6 +15,7 @@ pub struct Weighed {
 }
 
 // The state of an hour or a day that is measured.
+// Kept: a byte: `put_survey` and `put_on_day` write it into the lent tables.
 const MEASURED: u8 = 2;
 
 // A survey that stands, at its hour or day: rounded, measured with its readings, and weighed.
@@ -40,6 +42,7 @@ pub fn put_at(
 
 // "Enforcement beats plant at one hour": a survey that is beaten changes nothing and weighs nothing. The hour of one that stands, missing or not, has its bit
 // in the measured mask of its day.
+// Kept: a flag and five tables: this public call takes them so, and promises of the lent tables what `SurveyPut` says.
 pub fn put_survey(
     t: Survey,
     beaten: bool,
