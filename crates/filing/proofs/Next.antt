@@ -1,5 +1,4 @@
 -- A number of a line: the digits that a text starts with, their number, and the byte that stands behind them. Assumes nothing.
-use mathlib.Core.Logic.{◌⊎◌, inl, inr}
 use mathlib.Core.Path.{◌≡◌, refl, sym, ap, subst, ◌∙◌}
 use mathlib.Core.Bool.{Bool, true, false, not}
 use mathlib.Core.List.{List, [], ◌∷◌, ◌++◌, append-nil}
@@ -7,7 +6,7 @@ use Prim.Native.Nat.{ℕ, suc, ◌+◌, ◌-◌, ◌*◌, ◌<◌, ◌≤◌}
 use native.Mathlib.Omega.{arith}
 use lib.Dec.{ltb, eqb}
 use lib.ListN.{length, take, drop, get_or, length-append, drop_of_length-le}
-use borrow.Author.Tests.{ltb-false, lt-ltb, le-ltb, eq-eqb, ne_eqb}
+use borrow.Author.Tests.{ltb-false, lt-ltb, le-ltb, ne_eqb, eqb-true, eqb-false}
 use Rattle.std.proofs.Common.{Option, Some, None, cond}
 use Rattle.std.specs.Prelude.{unwrap_or}
 use Rattle.std.specs.List.{position_or_len}
@@ -174,6 +173,9 @@ module _ (s d b : List ℕ) (f : DigitsFirst s d b) where
             shorter = shorter;
           }
 
-      pub next_one : (x ≡ line_feed) ⊎ (x ≡ space) → (v : Option ℕ) → v ≡ kept (value d) → Next s v (eqb x line_feed) u
-      next_one (inl q) v k = rw (eq-eqb x line_feed q) (next_last q v k)
-      next_one (inr q) v k = rw (ne_eqb x line_feed (λ h. omega arith)) (next_more q v k)
+      by_stop : (t : Bool) → eqb x line_feed ≡ t → ((x ≡ line_feed → ⊥) → x ≡ space) → (v : Option ℕ) → v ≡ kept (value d) → Next s v t u
+      by_stop true e h v k = next_last (eqb-true x line_feed e) v k
+      by_stop false e h v k = next_more (h (eqb-false x line_feed e)) v k
+
+      pub next_one : ((x ≡ line_feed → ⊥) → x ≡ space) → (v : Option ℕ) → v ≡ kept (value d) → Next s v (eqb x line_feed) u
+      next_one h v k = by_stop (eqb x line_feed) refl h v k

@@ -13,7 +13,7 @@ returns-in_err-stop c = rw c.from_residual.ensures (next_at_end _ _ _ c.digits_f
 
 pub returns-in-10 : goal.returns-in-10
 returns-in-10 c =
-    next_one _ _ _ c.digits_first.ensures _ _ c.in_ok-stop.ensures.cases.0 (eqb-false _ _ (sym c.if-is_empty.ensures)) c.in-10.is _ c.value_of-value.ensures
+    next_one _ _ _ c.digits_first.ensures _ _ c.in_ok-stop.ensures.cases.0 (eqb-false _ _ (sym c.if-is_empty.ensures)) (λ o. grind arith) _ c.value_of-value.ensures
 
 pub returns-in_default : goal.returns-in_default
 returns-in_default c =
