@@ -10,6 +10,7 @@ use rules::{Refusal, Refused};
 use walk::Walked;
 
 // "Wrong row count", with place 0.
+// Kept: place 0 written out: a maker of `Refused` at the start would say no more than the field does.
 pub const WRONG_COUNT: Refused = Refused {
     refusal: Refusal::RowCount,
     place: 0,

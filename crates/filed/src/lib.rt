@@ -30,6 +30,7 @@ pub fn check_filed(file: &[u8], rows: &[u64], totals: &[u64; 5]) -> Result<Verdi
 }
 
 // What the program says of a record file and the text of a filing: 13 comes before either is looked at.
+// Kept: a count and no Option, since `Text` counts the bytes of `line` that are written, 0 where it is too short.
 pub fn filed_text(file: &[u8], text: &[u8], line: &mut [u8]) -> usize
     ensures text { Text (said file.now text.now) line.old line.new result }
     ensures upper_bound { result ≤ length line.new }

@@ -10,9 +10,11 @@ use crate::against::{WRONG_COUNT, against_account};
 use rules::{Refusal, Refused};
 use text::Said;
 
+// Kept: stated in `printed` too, beside its own test: the limit is of the programs, and no crate below the two speaks of it.
 const MOST_BYTES: usize = 65_536;
 
 // "Program only: input over 65,536 bytes", with place 0.
+// Kept: place 0 written out, as in `WRONG_COUNT`.
 const TOO_LONG: Refused = Refused {
     refusal: Refusal::TooLong,
     place: 0,
@@ -50,6 +52,6 @@ pub fn said_of(checked: Result<Verdict, Refused>) -> Said
     match checked {
         Ok(Verdict::Agrees) => Said::Yes,
         Ok(Verdict::Wrong(row, field)) => Said::Wrong(row as u64, field as u64),
-        Err(f) => Said::Refused(u64::from(u32::from(f.refusal)), f.place as u64),
+        Err(f) => Said::from(f),
     }
 }

@@ -4,9 +4,9 @@ use mathlib.Core.Bool.{Bool, true, false, not}
 use mathlib.Core.List.{List, [], ◌∷◌, ◌++◌, append-nil}
 use Prim.Native.Nat.{ℕ, suc, ◌+◌, ◌-◌, ◌*◌, ◌<◌, ◌≤◌}
 use native.Mathlib.Omega.{arith}
-use lib.Dec.{ltb}
+use lib.Dec.{ltb, eqb}
 use lib.ListN.{length, take, drop, get_or, length-append, drop_of_length-le}
-use borrow.Author.Tests.{ltb-false, lt-ltb, le-ltb, ne_eqb}
+use borrow.Author.Tests.{ltb-false, lt-ltb, le-ltb, ne_eqb, eqb-true, eqb-false}
 use Rattle.std.proofs.Common.{Option, Some, None, cond}
 use Rattle.std.specs.Prelude.{unwrap_or}
 use Rattle.std.specs.List.{position_or_len}
@@ -147,7 +147,7 @@ module _ (s d b : List ℕ) (f : DigitsFirst s d b) where
           let z = stop_behind stop n d u f.each in
           (rw (w, z.0, z.2, some_number d f.each (omega arith)), ap (up_to stop) w ∙ z.0, ap (past stop) w ∙ z.1)
 
-      pub next_last : x ≡ line_feed → (v : Option ℕ) → v ≡ kept (value d) → Next s v true u
+      next_last : x ≡ line_feed → (v : Option ℕ) → v ≡ kept (value d) → Next s v true u
       unfolding is_digit pick
       next_last q v k =
           let z = at_stop line_feed refl q in
@@ -160,7 +160,7 @@ module _ (s d b : List ℕ) (f : DigitsFirst s d b) where
             shorter = shorter;
           }
 
-      pub next_more : x ≡ space → (v : Option ℕ) → v ≡ kept (value d) → Next s v false u
+      next_more : x ≡ space → (v : Option ℕ) → v ≡ kept (value d) → Next s v false u
       unfolding is_digit pick past
       next_more q v k =
           let z = at_stop space refl q in
@@ -172,3 +172,10 @@ module _ (s d b : List ℕ) (f : DigitsFirst s d b) where
             line = λ _. ap (past line_feed) whole ∙ (digits_before line_feed refl d (x ∷ u) f.each).1 ∙ rw q;
             shorter = shorter;
           }
+
+      by_stop : (t : Bool) → eqb x line_feed ≡ t → ((x ≡ line_feed → ⊥) → x ≡ space) → (v : Option ℕ) → v ≡ kept (value d) → Next s v t u
+      by_stop true e h v k = next_last (eqb-true x line_feed e) v k
+      by_stop false e h v k = next_more (h (eqb-false x line_feed e)) v k
+
+      pub next_one : ((x ≡ line_feed → ⊥) → x ≡ space) → (v : Option ℕ) → v ≡ kept (value d) → Next s v (eqb x line_feed) u
+      next_one h v k = by_stop (eqb x line_feed) refl h v k

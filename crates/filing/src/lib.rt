@@ -13,6 +13,7 @@ use crate::totals::totals_of;
 use rules::Refused;
 
 // How many cells the rows of a text have; and its totals, or what refuses the text, with its line.
+// Kept: a count beside the lent rows, since `Promise` of `read_filing` counts also the cells that found no room.
 #[derive(Clone, Copy, Debug, PartialEq, Eq)]
 pub struct Filing {
     pub count: usize,
@@ -29,6 +30,7 @@ pub fn read_filing(text: &[u8], rows: &mut [u64]) -> Filing
     let mut rest = text;
     let mut line: usize = 1;
     let mut count: usize = 0;
+    // Kept: `loop`, since only the line that is read says how far a turn goes.
     loop {
         if let Some(figures) = rest.strip_prefix(TOTAL) {
             return Filing {

@@ -7,7 +7,7 @@ use crate::numbers::next_number;
 use arrayvec::ArrayVec;
 
 // The numbers of a line, whether all are in their range, and what stands behind the line.
-// Kept: a flag beside the numbers, since a line that is no row (19) comes before a number out of range (20).
+// Kept: a flag beside the numbers: `totals_from`, which `read_filing` promises, has 19 for a line of another count before 20 for a number out of range.
 #[derive(Drop)]
 pub struct Line<'a, const N: usize> {
     pub numbers: ArrayVec<u64, N>,

@@ -4,7 +4,7 @@ ghost use Rattle.filing.specs.Filing.{totals_from};
 ghost use Rattle.filing.specs.Parts.{read_by};
 
 use crate::lines::line_of;
-use rules::{Refusal, Refused};
+use rules::{Refusal, Refused, ensure};
 
 // The totals, from behind their word on: five numbers, and no line behind them.
 pub fn totals_of(text: &[u8], line: usize) -> Result<[u64; 5], Refused>
@@ -17,17 +17,7 @@ pub fn totals_of(text: &[u8], line: usize) -> Result<[u64; 5], Refused>
     };
     let l = line_of::<5>(text).ok_or(malformed)?;
     let totals = l.numbers.into_inner().or(Err(malformed))?;
-    if !l.fits {
-        return Err(Refused {
-            refusal: Refusal::OutOfRange,
-            place: line,
-        });
-    }
-    if !l.rest.is_empty() {
-        return Err(Refused {
-            refusal: Refusal::BadLine,
-            place: line + 1,
-        });
-    }
+    ensure(l.fits, Refusal::OutOfRange, line)?;
+    ensure(l.rest.is_empty(), Refusal::BadLine, line + 1)?;
     Ok(totals)
 }

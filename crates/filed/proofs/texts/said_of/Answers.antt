@@ -16,4 +16,4 @@ returns-in-Ok-Wrong c = let e = rw c.in-Ok-Wrong.is at c.in-Ok-Wrong.field-0-is 
 
 pub returns-in-Err : goal.returns-in-Err
 unfolding verdict_on_paper line_of line_by said_line refuse fault_in
-returns-in-Err c = rw (c.in-Err.is, c.from-in-Err.ensures, c.from.ensures)
+returns-in-Err c = rw (c.in-Err.is, c.from.ensures)

@@ -2,7 +2,7 @@
 use mathlib.Core.Path.{sym}
 use native.Mathlib.Omega.{arith}
 use borrow.Author.Tests.{eqb-true, eqb-false}
-use Rattle.filing.proofs.Next.{next_at_end, next_without, next_other, next_last, next_more}
+use Rattle.filing.proofs.Next.{next_at_end, next_without, next_other, next_one}
 use Rattle.filing.proofs.numbers.next_number.Goals as goal
 
 pub returns-then-is_empty : goal.returns-then-is_empty
@@ -13,11 +13,8 @@ returns-in_err-stop c = rw c.from_residual.ensures (next_at_end _ _ _ c.digits_f
 
 pub returns-in-10 : goal.returns-in-10
 returns-in-10 c =
-    next_last _ _ _ c.digits_first.ensures _ _ c.in_ok-stop.ensures.cases.0 (eqb-false _ _ (sym c.if-is_empty.ensures)) c.in-10.is _ c.value_of-value.ensures
-
-pub returns-in-32 : goal.returns-in-32
-returns-in-32 c =
-    next_more _ _ _ c.digits_first.ensures _ _ c.in_ok-stop.ensures.cases.0 (eqb-false _ _ (sym c.if-is_empty.ensures)) c.in-32.is _ c.value_of-value.ensures
+    next_one _ _ _ c.digits_first.ensures _ _ c.in_ok-stop.ensures.cases.0 (eqb-false _ _ (sym c.if-is_empty.ensures)) (λ o. grind arith) _ c.value_of-value.ensures
 
 pub returns-in_default : goal.returns-in_default
-returns-in_default c = next_other _ _ _ c.digits_first.ensures _ _ c.in_ok-stop.ensures.cases.0 (λ e. omega arith) (λ e. omega arith)
+returns-in_default c =
+    next_other _ _ _ c.digits_first.ensures _ _ c.in_ok-stop.ensures.cases.0 (λ e. grind arith) (λ e. grind arith)
