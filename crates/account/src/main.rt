@@ -10,7 +10,7 @@ use std::rt::Env;
 
 fn main(rt: HostRuntime) -> io::Result<()> {
     let err = rt.stderr();
-    // Kept: asked in each program's `main`. In `input` it would be a public call, and no promise can say which arguments the system hands out.
+    // Kept: asked in each program's `main`, by a rule of the project: a public call owes a promise for every input, and none can say which arguments come.
     // An argument, which a caller may take for the file's name, is refused before anything is read. Its text is not asked for, so one byte is room enough.
     if !matches!(rt.arg(1, &mut [0]), Err(FillError::NotPresent)) {
         return err.write_all(

@@ -6,6 +6,7 @@ ghost use Rattle.calls.specs.Answers.{Answered, lent_cells, answer_bytes, left_b
 use crate::{bytes, lent};
 
 // The answer's cells, and behind them every lent cell.
+// Kept: three tables beside the answer, as the C interface lends them: a struct of them would be no plainer.
 fn put_left(
     out: &mut [u8],
     answer: &[u64; 8],

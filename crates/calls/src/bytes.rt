@@ -1,7 +1,9 @@
 // Numbers written into a lent buffer, little-endian, each behind the last.
-ghost use Rattle.std.specs.Prelude.{◌≡◌, ℕ, List, ◌+◌, ◌*◌, ◌≤◌, length};
+// Kept: the room as a test of lengths in each writer and no cursor: `Wrote` and `Answered` speak of the whole buffer and of the place behind what is written.
+ghost use Rattle.std.specs.Prelude.{◌≡◌, ℕ, List, ◌+◌, ◌*◌, ◌≤◌, ◌++◌, length};
 ghost use Rattle.std.specs.List.{flat_map};
 ghost use Rattle.law.specs.Written.{Wrote};
+ghost use Rattle.field.specs.Bytes.{u32_bytes};
 
 // A number that is written as its bytes, the low one first.
 pub trait Little: Copy {
@@ -17,8 +19,6 @@ pub trait Little: Copy {
 }
 
 impl Little for u32 {
-    ghost use Rattle.field.specs.Bytes.{u32_bytes};
-
     ghost bytes = { u32_bytes };
 
     ghost width = { 4 };
@@ -54,6 +54,7 @@ pub fn put_all<N: Little>(out: &mut [u8], at: usize, cells: &[N]) -> usize
 }
 
 // Bytes as they stand.
+// Kept: written here, in text and in import: three lines each, no plainer as a public call of a lower crate, with promise and edits of its own.
 pub fn put_bytes(out: &mut [u8], at: usize, bytes: &[u8]) -> usize
     requires { at + length bytes.now ≤ length out.old }
     ensures wrote { Wrote out.old at bytes.now out.new result }
@@ -62,4 +63,13 @@ pub fn put_bytes(out: &mut [u8], at: usize, bytes: &[u8]) -> usize
     let end = at + bytes.len();
     out[at..end].copy_from_slice(bytes);
     end
+}
+
+// A number, and bytes behind it.
+pub fn put_counted(out: &mut [u8], n: u32, bytes: &[u8]) -> usize
+    requires { 4 + length bytes.now ≤ length out.old }
+    ensures { Wrote out.old 0 (u32_bytes n ++ bytes.now) out.new result }
+{
+    let at = n.put(out, 0);
+    put_bytes(out, at, bytes)
 }

@@ -2,6 +2,7 @@
 use crate::{account_call, check_call, filed_call, import_call, panel_call, survey_call};
 use std::io;
 use std::io::Read;
+use std::ops::ControlFlow;
 
 // The longest answer in bytes: eight cells of eight bytes, and every cell that can be lent.
 pub const LONGEST: usize = 64 + 8 * MOST_ROW_CELLS + 2 * 4 * MOST_WORK_CELLS;
@@ -43,6 +44,7 @@ impl TryFrom<u32> for Call {
 }
 
 // The bytes behind a header; none where they are too many for their room or do not all come.
+// Kept: reader, room and buffer as parameters of the six calls below: a frame's bytes stay lent while its answer is written, so a struct is no plainer.
 fn read_bytes<'a>(from: &mut impl Read, room: &'a mut [u8], n: usize) -> Option<&'a [u8]> {
     let bytes = room.get_mut(..n)?;
     if input::read_pieces(from, bytes, 1_000_000) != Ok(n) {
@@ -51,7 +53,6 @@ fn read_bytes<'a>(from: &mut impl Read, room: &'a mut [u8], n: usize) -> Option<
     Some(bytes)
 }
 
-// Kept: reader, room and buffer as parameters of each call. A frame's bytes stay lent while its answer is written, so one struct of all three is no plainer.
 // The account's answer; none where more cells are to be lent than there are.
 fn account<'a>(
     from: &mut impl Read,
@@ -172,23 +173,23 @@ fn answer<'a>(
 }
 
 // Why the program stops before the end of its input.
-fn stop(err: &impl Print, why: &[u8]) -> io::Result<bool> {
+fn stop(err: &impl Print, why: &[u8]) -> io::Result<ControlFlow<()>> {
     err.write_all(why)?;
-    Ok(false)
+    Ok(ControlFlow::Break(()))
 }
 
-// One frame answered, by one write; false where the program is to end.
+// One frame answered, by one write; a break where the program is to end.
 pub fn next(
     from: &mut impl Read,
     to: &impl Print,
     err: &impl Print,
     room: &mut [u8],
     out: &mut [u8; LONGEST],
-) -> io::Result<bool> {
+) -> io::Result<ControlFlow<()>> {
     let mut header = [0; 24];
     match input::read_pieces(from, &mut header, 24) {
         Ok(24) => {}
-        Ok(0) => return Ok(false),
+        Ok(0) => return Ok(ControlFlow::Break(())),
         _ => return stop(err, b"calls: a header is cut short\n"),
     }
     let Some(said) = answer(from, &header, room, out) else {
@@ -200,5 +201,5 @@ pub fn next(
     if to.write_all(said).is_err() {
         return stop(err, b"calls: an answer could not be written\n");
     }
-    Ok(true)
+    Ok(ControlFlow::Continue(()))
 }

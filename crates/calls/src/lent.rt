@@ -38,6 +38,7 @@ impl Lent for u64 {
 }
 
 // From the seed on, each number one more than the last.
+// Kept: a number counted beside the cells and no `enumerate`: it wraps at 2^32, and an index cast to u32 would owe that no table is longer.
 pub fn fill<T: Lent>(cells: &mut [T], seed: u32)
     ensures { cells.new ≡ table (λ i. T.cell ((seed + i) % 2 ^ 32)) (length cells.old) }
 {

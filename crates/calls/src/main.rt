@@ -26,7 +26,7 @@ fn answer_all(
     out: &mut [u8; LONGEST],
 ) -> io::Result<()> {
     for _ in 0..4_000_000_000u32 {
-        if !frame::next(from, to, err, room, out)? {
+        if frame::next(from, to, err, room, out)?.is_break() {
             break;
         }
     }

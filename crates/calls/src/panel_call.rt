@@ -18,6 +18,7 @@ fn put_state(out: &mut [u8], number: u32, total: f64, hours: u32, missing: u32) 
 }
 
 // The call is made on the frame's state, and what it answers and leaves is written.
+// Kept: seven parameters, which are the call's own arguments: a struct of them, made once and taken apart at once, would be no plainer.
 pub fn answer(
     bits: u64,
     mut hours: u32,

@@ -1,5 +1,5 @@
 // What stands between the faces and the calls behind them: the number of an answer, an answer in its cells, an hour by its kind.
-// Kept: functions and no `From`, since neither a `Result` of another crate nor an array of cells is a type of this one.
+// Kept: functions and no `From`: neither a `Result` nor an array is a type of this crate, and one made only to hang `From` on would be no plainer.
 #![tactic(auto, using(law::proofs::Tests::judged), unfolding(crate::specs::Opened::faces))]
 
 ghost use Rattle.std.specs.Prelude.{◌≡◌, Some, None, leb};
@@ -14,6 +14,7 @@ use reading::Hour;
 use rules::{Account, Refused};
 
 // The number of an answer, 0 where it is no refusal.
+// Kept: 0 and no Option, the C interface: `AccountFace` and `ImportFace` return it so.
 pub fn number<T>(said: &Result<T, Refused>) -> u32
     ensures { result ≡ (told said.now).number }
 {
@@ -41,16 +42,7 @@ pub fn answer_cells(said: Result<Account, Refused>) -> [u64; 8]
                 ammonia,
             ]
         }
-        Err(f) => [
-            u64::from(u32::from(f.refusal)),
-            f.place as u64,
-            0,
-            0,
-            0,
-            0,
-            0,
-            0,
-        ],
+        Err(f) => [u64::from(f.refusal), f.place as u64, 0, 0, 0, 0, 0, 0],
     }
 }
 
@@ -60,7 +52,7 @@ pub fn import_cells(said: Result<usize, Refused>) -> [u64; 3]
 {
     match said {
         Ok(count) => [0, 0, count as u64],
-        Err(f) => [u64::from(u32::from(f.refusal)), f.place as u64, 0],
+        Err(f) => [u64::from(f.refusal), f.place as u64, 0],
     }
 }
 
@@ -71,11 +63,12 @@ pub fn verdict_cells(said: Result<Verdict, Refused>) -> [u64; 3]
     match said {
         Ok(Verdict::Agrees) => [0, 0, 0],
         Ok(Verdict::Wrong(row, field)) => [1, row as u64, field as u64],
-        Err(f) => [2, u64::from(u32::from(f.refusal)), f.place as u64],
+        Err(f) => [2, u64::from(f.refusal), f.place as u64],
     }
 }
 
 // Kind 0 is a stopped hour, 1 a missing one, 2 a measured one; there is no other.
+// Kept: a kind as a number, the C interface: `doarpezwim_panel_hour` takes every one.
 pub fn hour_of_kind(kind: u32, concentration: f32, flow: f32) -> Option<Hour>
     ensures { result ≡ need None (leb kind 2) (Some (hour_of_kind kind concentration flow)) }
 {

@@ -82,5 +82,6 @@ pub fn doarpezwim_check(file: &[u8], rows: &[u64], totals: &[u64; 5], answer: &m
     ensures { CheckFace file.now rows.now totals.now result answer.new }
 {
     *answer = faces::verdict_cells(filed::check_filed(file, rows, totals));
+    // Kept: read back from its cell, the C interface: `CheckFace` returns the first of the three.
     answer[0] as u32
 }

@@ -10,11 +10,7 @@ use text::Said;
 // What refuses the text, and at which line: on standard error, so that standard output has records or nothing.
 fn refuse(err: &impl Print, refused: Refused) -> io::Result<()> {
     let mut said = [0; 8192];
-    let number = u32::from(refused.refusal);
-    let n = text::said_text(
-        &mut said,
-        Said::Refused(u64::from(number), refused.place as u64),
-    );
+    let n = text::said_text(&mut said, Said::from(refused));
     err.write_all(&said[..n])
 }
 
@@ -31,7 +27,7 @@ fn bring_in(out: &impl Print, err: &impl Print, text: &[u8]) -> io::Result<()> {
 
 fn main(rt: HostRuntime) -> io::Result<()> {
     let err = rt.stderr();
-    // Kept: asked in each program's `main`. In `input` it would be a public call, and no promise can say which arguments the system hands out.
+    // Kept: asked in each program's `main`, by a rule of the project: a public call owes a promise for every input, and none can say which arguments come.
     // An argument, which a caller may take for the file's name, is refused before anything is read. Its text is not asked for, so one byte is room enough.
     if !matches!(rt.arg(1, &mut [0]), Err(FillError::NotPresent)) {
         return err.write_all(
@@ -43,6 +39,7 @@ fn main(rt: HostRuntime) -> io::Result<()> {
         return err.write_all(b"historian: the input could not be read, nothing is written\n");
     };
     if n > 65536 {
+        // Kept: a refusal at place 0 written out: a constructor for it would be a public call of its own, no plainer.
         let refusal = Refusal::TooLong;
         return refuse(&err, Refused { refusal, place: 0 });
     }

@@ -10,9 +10,11 @@ use rules::{Refusal, Refused};
 use text::Said;
 
 // No longer input is looked at.
+// Kept: here and in filed, each its own: `program_text` and `filed_text` promise their limits apart, and a crate for one number is no plainer.
 const MOST_BYTES: usize = 65536;
 
 // The text of a file's answer, for a file of any length; 0 where the buffer could be too short.
+// Kept: a count and no Option, as `said_text` has it and as `Text` counts: the callers print `text[..n]`.
 pub fn answer_text(file: &[u8], text: &mut [u8]) -> usize
     ensures text { Text (printed_from (outcome file.now)) text.old text.new result }
     ensures upper_bound { result ≤ length text.new }
@@ -32,6 +34,7 @@ pub fn program_text(input: &[u8], text: &mut [u8]) -> usize
     ensures upper_bound { result ≤ length text.new }
 {
     if input.len() > MOST_BYTES {
+        // Kept: a refusal at place 0 written out: a constructor for it would be a public call of its own, no plainer.
         let too_long = Refused {
             refusal: Refusal::TooLong,
             place: 0,

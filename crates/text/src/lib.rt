@@ -33,11 +33,12 @@ impl From<Refused> for Said {
     ghost from_gives = { λ f s. s ≡ Refused (number_of f.refusal) f.place };
 
     fn from(f: Refused) -> Said {
-        Said::Refused(u64::from(u32::from(f.refusal)), f.place as u64)
+        Said::Refused(u64::from(f.refusal), f.place as u64)
     }
 }
 
 // A word, two numbers and a line feed, at the start; a number is at most 20 bytes long.
+// Kept: the room as a test of lengths and no cursor: the least room differs from writer to writer, and `Text` and `Wrote` speak of the whole buffer.
 fn put_word(text: &mut [u8], word: &[u8], first: u64, second: u64) -> usize
     requires { length word.now + 42 < length text.old }
     ensures { Wrote text.old 0 (word.now ++ spaced (first ∷ second ∷ [])) text.new result }
@@ -47,7 +48,7 @@ fn put_word(text: &mut [u8], word: &[u8], first: u64, second: u64) -> usize
 }
 
 // "refused N PLACE", "wrong ROW FIELD" or "yes"; 0 where the buffer could be too short.
-// Kept: a count and no Option, since `Text` counts the bytes, and 0 of them are written then.
+// Kept: a count and no Option, which is no plainer: each caller prints `text[..n]`, of 0 bytes nothing, and `Text` counts so.
 pub fn said_text(text: &mut [u8], s: Said) -> usize
     ensures { Text (said_line s) text.old text.new result }
 {
@@ -74,6 +75,7 @@ fn put_rows(text: &mut [u8], rows: &[[u64; 7]]) -> usize
 }
 
 // One line a row, then the totals; 0 where the buffer could be too short, for more than 48 rows, and where one is not there.
+// Kept: cells, `n` beside them and a count: `stated_text` takes every table and every n, and `stated_lines` has no text, of 0 bytes, for the wrong ones.
 pub fn stated_text(text: &mut [u8], rows: &[u64], n: usize, totals: &[u64; 5]) -> usize
     ensures { Text (stated_lines rows.now n totals.now) text.old text.new result }
 {

@@ -5,6 +5,7 @@ ghost use Rattle.text.specs.Numbers.{decimal, spaced};
 ghost use Rattle.law.specs.Written.{Wrote};
 
 // Bytes from a place on.
+// Kept: written here, in import and in calls: three lines each, no plainer as a public call of a lower crate, with promise and edits of its own.
 pub fn put_bytes(text: &mut [u8], at: usize, bytes: &[u8]) -> usize
     requires { at + length bytes.now ≤ length text.old }
     ensures { Wrote text.old at bytes.now text.new result }

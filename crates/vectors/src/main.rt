@@ -3,6 +3,7 @@
 
 use std::io;
 use std::io::Read;
+use std::ops::ControlFlow;
 
 // The text that the program prints; for a file that is too long for the program, the library's own answer behind it.
 fn answer(out: &impl Print, file: &[u8]) -> io::Result<()> {
@@ -16,30 +17,35 @@ fn answer(out: &impl Print, file: &[u8]) -> io::Result<()> {
     Ok(())
 }
 
-// One file answered; false at the end of the corpus. A length is read in pieces of 3 bytes and a file in pieces of the size given, so that both are put
+// One file answered; a break at the end of the corpus. A length is read in pieces of 3 bytes and a file in pieces of the size given, so that both are put
 // together from several reads.
-fn next(from: &mut impl Read, out: &impl Print, buf: &mut [u8], piece: usize) -> io::Result<bool> {
+fn next(
+    from: &mut impl Read,
+    out: &impl Print,
+    buf: &mut [u8],
+    piece: usize,
+) -> io::Result<ControlFlow<()>> {
     let mut length = [0; 4];
     if input::read_pieces(from, &mut length, 3) != Ok(4) {
-        return Ok(false);
+        return Ok(ControlFlow::Break(()));
     }
     let n = u32::from_le_bytes(length) as usize;
     let Some(file) = buf.get_mut(..n) else {
         out.write_all(b"too long for this corpus\n")?;
-        return Ok(false);
+        return Ok(ControlFlow::Break(()));
     };
     if input::read_pieces(from, file, piece) != Ok(n) {
         out.write_all(b"cut short\n")?;
-        return Ok(false);
+        return Ok(ControlFlow::Break(()));
     }
     answer(out, file)?;
-    Ok(true)
+    Ok(ControlFlow::Continue(()))
 }
 
 // In pieces of odd sizes, another from file to file. A proved loop has to end: it takes more sizes than a corpus has files.
 fn answer_all(from: &mut impl Read, out: &impl Print, buf: &mut [u8]) -> io::Result<()> {
     for piece in [7, 1, 4099].into_iter().cycle().take(1_000_000) {
-        if !next(from, out, buf, piece)? {
+        if next(from, out, buf, piece)?.is_break() {
             break;
         }
     }

@@ -4,4 +4,4 @@ use Rattle.calls.proofs.survey_call.answer.Goals as goal
 
 pub returns : goal.returns
 returns c =
-    part-wrote _ _ _ _ _ _ c.doarpezwim_governing_survey-n.ensures c.put_part.ensures
+    part-wrote _ _ _ _ _ _ c.doarpezwim_governing_survey-n.ensures c.put_counted.ensures
