@@ -52,9 +52,8 @@ impl<'a> Series<'a> {
     {
         let value = fill_of(gap.missing, self.valid, b, &mut self.peaks);
         filler(
-            &mut values[first..],
-            &states[first..],
-            gap.next - first,
+            &mut values[first..gap.next],
+            &states[first..gap.next],
             value,
         );
     }

@@ -58,13 +58,13 @@ pub fn run_end(states: &[u8], first: usize) -> usize
     first + measured_hours(&states[first..])
 }
 
-// `v` into the missing hours among the first `count`.
+// `v` into the missing hours of a part.
 // Kept: of a write through a zip of `iter_mut` no proof knows what the slice holds.
-pub fn filler(part: &mut [u32], states: &[u8], count: usize, v: u32)
-    requires { (count ≤ length part.old) × (count ≤ length states.now) }
-    ensures { part.new ≡ over (spot states.now v part.old) count part.old }
+pub fn filler(part: &mut [u32], states: &[u8], v: u32)
+    requires { length part.old ≤ length states.now }
+    ensures { part.new ≡ over (spot states.now v part.old) (length part.old) part.old }
 {
-    for k in 0..count {
+    for k in 0..part.len() {
         if states[k] == MISSING {
             part[k] = v;
         }
