@@ -1,5 +1,5 @@
 -- The period of a line: the code's test, and what it leaves where the states are those that the masks say. Assumes nothing.
-use mathlib.Core.Path.{◌≡◌, refl, ◌∙◌, sym, ap}
+use mathlib.Core.Path.{◌≡◌, refl, ◌∙◌, sym, ap, ap₂}
 use mathlib.Core.Bool.{Bool, true, false, not, ◌&&◌}
 use mathlib.Core.List.{List}
 use Prim.Native.Nat.{ℕ, ◌*◌, ◌≤◌, min}
@@ -19,10 +19,11 @@ use Rattle.fills.specs.Period.{is_filled, period_cells}
 use Rattle.fills.proofs.Whole.{no_gap}
 
 -- the code's test
-pub guard_is : (method first days both room : ℕ) (conc flow : List ℕ) → both ≡ min (length conc) (length flow) → room ≡ min most_hours both
-    → ((eqb method 1 && leb (hours_of_day * days) room) && not (eqb first 0)) ≡ is_filled method first days conc flow
+pub guard_is : (method first days d both room : ℕ) (conc flow : List ℕ) → d ≡ days → both ≡ min (length conc) (length flow) → room ≡ min most_hours both
+    → ((eqb method 1 && leb (hours_of_day * d) room) && not (eqb first 0)) ≡ is_filled method first days conc flow
 unfolding is_filled
-guard_is method first days both room conc flow e f = ap (λ (n : ℕ). (eqb method 1 && leb (hours_of_day * days) n) && not (eqb first 0)) (f ∙ ap (min most_hours) e)
+guard_is method first days d both room conc flow g e f =
+    ap₂ (λ (k n : ℕ). (eqb method 1 && leb (hours_of_day * k) n) && not (eqb first 0)) g (f ∙ ap (min most_hours) e)
 
 -- what a period that is filled asks
 pub filled-fits : (method first days : ℕ) (conc flow : List ℕ) → is_filled method first days conc flow ≡ true → (hours_of_day * days ≤ most_hours) × (hours_of_day * days ≤ length conc) × (hours_of_day * days ≤ length flow)

@@ -6,13 +6,14 @@ use Prim.Native.Nat.{ℕ, zero, suc, ◌+◌, ◌-◌, ◌<◌, ◌≤◌}
 use native.Mathlib.Nat.{eq-or-lt_of_le}
 use native.Mathlib.Numerals.{add-one}
 use native.Mathlib.Omega.{arith}
-use lib.ListN.{length, get_or, take, drop, length-drop}
-use lib.Seq.{take-suc, drop-drop, get_or-drop}
+use lib.ListN.{length, get_or, take, drop, length-drop, length-take}
+use lib.Seq.{take-suc, drop-drop, get_or-drop, get_or-take}
 use lib.Dec.{eqb}
 use borrow.Author.Tests.{eqb-true}
-use Rattle.law.specs.Words.{pick, over}
+use Rattle.law.specs.Words.{pick, table, over}
 use Rattle.law.proofs.Tests.{pick_not_eq, pick_same}
-use Rattle.law.proofs.Over.{part-whole, over_none, over_skip, over_back, over_part, part-back, length_over}
+use Rattle.law.proofs.Over.{over_none, over_skip, over_back, over_part, part-back, length_over, over_all}
+use Rattle.law.proofs.Tabled.{table_same}
 use Rattle.rules.specs.Slots.{Slot, valid, stopped, run, valids}
 use Rattle.rules.specs.Fill.{fill, mean_up, same}
 use Rattle.fills.specs.Gaps.{row, fill_at, cell_at, filled_cells}
@@ -20,14 +21,20 @@ use Rattle.fills.specs.Parts.{Scanned, Measured, spot, patched}
 use Rattle.fills.proofs.Neighbours.{before, from, Empty, run_before, valids_before, valids_from, none_before, alike, fill_alike}
 use Rattle.fills.proofs.States.{row-length, in_row, at-valid, at-missing, at-stopped, at-empty}
 
--- a part lent from hour i to the end
--- what comes back of it from the filler
-pub part_filled : (states values ys : List ℕ) (v i next : ℕ)
-    → ys ≡ over (spot (take (length states - i) (drop i states)) v (take (length values - i) (drop i values))) (next - i) (take (length values - i) (drop i values))
-    → take i values ++ (ys ++ drop (length values - i) (drop i values)) ≡ patched states v i next values
-part_filled states values ys v i next e =
-    part-back _ values ys i (next - i)
-    (e ∙ ap₂ (λ (t u : List ℕ). over (spot t v u) (next - i) (take (length values - i) (drop i values))) (part-whole i states) (part-whole i values))
+-- the cells of the hours from i up to the next measured one: what comes back of them from the filler
+pub part_filled : (states values ys : List ℕ) (v i next : ℕ) → i ≤ next → next ≤ length values
+    → ys ≡ over (spot (take (next - i) (drop i states)) v (take (next - i) (drop i values))) (length (take (next - i) (drop i values))) (take (next - i) (drop i values))
+    → take i values ++ (ys ++ drop (next - i) (drop i values)) ≡ patched states v i next values
+part_filled states values ys v i next from fits e =
+    let m = next - i in
+    let p = take m (drop i values) in
+    let long : length p ≡ m = simp (length-take, length-drop) (omega (arith, from, fits)) in
+    let f = spot (take m (drop i states)) v p in
+    let g = spot (drop i states) v (drop i values) in
+    let same-cells : table f m ≡ table g m =
+    table_same f g m (λ k l. ap₂ (λ (s x : ℕ). pick (eqb s 1) v x) (get_or-take m (drop i states) k 0 l) (get_or-take m (drop i values) k 0 l)) in
+    let written : ys ≡ table g m = e ∙ ap (λ (n : ℕ). over f n p) long ∙ over_all f m p (omega (arith, long)) ∙ same-cells in
+    ap (λ (t : List ℕ). take i values ++ (t ++ drop m (drop i values))) written
 
 module _ (states values₀ kept : List ℕ) where
   -- at hour i the cells before it are done, b of the valid values stand before it, and if it is not valid, no gap has begun

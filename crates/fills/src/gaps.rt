@@ -25,6 +25,8 @@ fn valid_values(states: &[u8], values: &[u32]) -> ArrayVec<u32, 2208>
 }
 
 // The valid values of one quantity, in the order of the hours, and their peaks so far.
+// Kept: `Peaked`, and that `b` values stand before a gap, are asked by `fill` and by what it calls: of those each takes one or two of the fields, and as
+// methods they would promise of the others too.
 #[derive(Drop)]
 struct Series<'a> {
     valid: &'a [u32],
@@ -50,9 +52,8 @@ impl<'a> Series<'a> {
     {
         let value = fill_of(gap.missing, self.valid, b, &mut self.peaks);
         filler(
-            &mut values[first..],
-            &states[first..],
-            gap.next - first,
+            &mut values[first..gap.next],
+            &states[first..gap.next],
             value,
         );
     }
@@ -87,6 +88,7 @@ fn fill_along(states: &[u8], concentrations: &mut [u32], flows: &mut [u32], cs: 
 }
 
 // The missing hours of both quantities filled, of which each hour has its cells.
+// Kept: three tables side by side: `fill_period` has them so from its caller.
 pub fn fill_gaps(states: &[u8], concentrations: &mut [u32], flows: &mut [u32])
     requires { (length states.now ≤ most_hours) × (length states.now ≤ length concentrations.old) × (length states.now ≤ length flows.old) }
     ensures { FilledBoth states.now concentrations.old flows.old concentrations.new flows.new }

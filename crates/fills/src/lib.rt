@@ -9,6 +9,8 @@ mod window;
 ghost use Rattle.fills.specs.Period.{PeriodFilled};
 
 // "Fills under method 1 only", by the states of the hours, and the first missing hour plus 1, by the masks: a line that lacks no hour has nothing to fill.
+// Kept: the method and the first missing hour as numbers, 0 for none, and bare tables: this public call takes every method and the lent tables so, and its
+// answer is the row's own cell.
 pub fn fill_period(
     method: u32,
     runs: &[u32; 92],
@@ -23,7 +25,7 @@ pub fn fill_period(
 {
     let first = hours::first_missing(runs, measured, days);
     let room = conc.len().min(flow.len()).min(2208);
-    let n = 24 * (days as usize);
+    let n = 24 * usize::from(days);
     if (method == 1) & (n <= room) & (first != 0) {
         gaps::fill_gaps(&states[..n], conc, flow);
     }

@@ -4,6 +4,7 @@ ghost use Rattle.law.specs.Words.{over};
 ghost use Rattle.fills.specs.Parts.{spot, Scanned, Measured};
 
 // The states of an hour.
+// Kept: bytes: `fill_period` takes every one from the lent table, and stopped is all but these two.
 pub const MISSING: u8 = 1;
 
 pub const MEASURED: u8 = 2;
@@ -16,6 +17,8 @@ pub struct Gap {
 }
 
 // What a scan from an hour on finds.
+// Kept: the hour beside the whole row: `Scanned` and `Measured` speak of the hours of the period, and a part lent from there on would count from its own start.
+// One loop: a `position` with a `filter` and `count` behind it would go over the gap twice, and is no plainer.
 pub fn scan(states: &[u8], first: usize) -> Gap
     requires { first ≤ length states.now }
     ensures { Scanned states.now first result.missing result.next }
@@ -55,12 +58,13 @@ pub fn run_end(states: &[u8], first: usize) -> usize
     first + measured_hours(&states[first..])
 }
 
-// `v` into the missing hours among the first `count`.
-pub fn filler(part: &mut [u32], states: &[u8], count: usize, v: u32)
-    requires { (count ≤ length part.old) × (count ≤ length states.now) }
-    ensures { part.new ≡ over (spot states.now v part.old) count part.old }
+// `v` into the missing hours of a part.
+// Kept: of a write through a zip of `iter_mut` no proof knows what the slice holds.
+pub fn filler(part: &mut [u32], states: &[u8], v: u32)
+    requires { length part.old ≤ length states.now }
+    ensures { part.new ≡ over (spot states.now v part.old) (length part.old) part.old }
 {
-    for k in 0..count {
+    for k in 0..part.len() {
         if states[k] == MISSING {
             part[k] = v;
         }

@@ -15,6 +15,7 @@ pub fn largest_of(values: &[u32]) -> u32
 }
 
 // The peaks among the first `b` values put behind those that are there already.
+// Kept: a peak by its number, by which `Peaked` says where its values stand: `chunks_exact(48)` with a `skip` of those that are there would be no plainer.
 pub fn put_peaks(valid: &[u32], b: usize, peaks: &mut ArrayVec<u32, 46>)
     requires { Peaked valid.now peaks.old.items × (b ≤ length valid.now) }
     ensures { Peaked valid.now peaks.new.items × (b / 48 ≤ length peaks.new.items) }

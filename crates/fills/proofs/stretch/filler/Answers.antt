@@ -37,5 +37,5 @@ pub returns : goal.returns
 returns c =
     let l = c.loop-k in
     let a = c.args in
-    let e : l.k ≡ a.count = omega arith in
+    let e : l.k ≡ length a.part.now = omega arith in
     l.invariant.2 ∙ ap (λ (k : ℕ). over (spot a.states.now a.v a.part.now) k a.part.now) e

@@ -7,4 +7,4 @@ use Rattle.fills.specs.Parts.{spot}
 use Rattle.fills.proofs.stretch.filler.Given as goal
 
 abbrev pub invariant-loop-k : goal.invariant-loop-k
-invariant-loop-k l = (l.k ≤ l.count) × (length l.part ≡ length l.initial.part) × (l.part ≡ over (spot l.states l.v l.initial.part) l.k l.initial.part)
+invariant-loop-k l = (l.k ≤ length l.initial.part) × (length l.part ≡ length l.initial.part) × (l.part ≡ over (spot l.states l.v l.initial.part) l.k l.initial.part)
