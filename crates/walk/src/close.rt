@@ -45,7 +45,7 @@ const HALF: u64 = 50_000;
 const HALF_OF_WATER: u64 = 50;
 
 // The sum of c x l over n hours or days and the units of a gram, halves up: half of the divisor is added first, so that nothing is doubled.
-// Kept: beside `halves_up` of fuel, which takes 128 bits: this one stays in 64.
+// Kept: beside `halves_up` of fuel, which doubles: sums of c x l are to fit 64 bits in micrograms too (DECISIONS 37).
 fn grams_of(weight: u64, n: u32, halfgram: u64) -> u64
     requires { (0 < n) × (0 < halfgram) × (halfgram ≤ per_gram) × (weight ≤ most_surveys * most_amount * most_hours) }
     ensures { result ≡ halves_up weight (n * (2 * halfgram)) }
@@ -63,7 +63,7 @@ fn surveyed_grams(v: View, s: Sums, halfgram: u64) -> u64
 }
 
 // The grams of a line of an outfall by its method and its cells; no day is filled.
-// Kept: beside `line_grams`, since water has no fuel: one `match` for both would test the world in every arm. `_` takes None too, as `daily_grams` of specs/ does.
+// Kept: beside `line_grams`, since water has no fuel: one `match` for both would test the world in every arm. `_` takes None, as in specs/ `daily_grams`.
 #[tactic(auto, unfolding(law::specs::Words::pick))]
 pub fn daily_grams(method: Option<Method>, v: View, s: Sums, conc: &[u32], flow: &[u32]) -> u64
     requires { DailyReady (method_number method) v s conc.now flow.now }

@@ -26,14 +26,14 @@ pub struct Walked {
 }
 
 // "A work slice under 2,208 cells", with place 0.
-// Kept: written out: a function of `rules` for place 0 would be no shorter at its one call.
+// Kept: written out: made by a function for place 0, neither the field nor its 0 would stand to be read.
 const TOO_SHORT: Refused = Refused {
     refusal: Refusal::FewWorkCells,
     place: 0,
 };
 
 // The walk where both work tables have 2,208 cells, which a refusal leaves clear.
-// Kept: two fills, twice: a function that clears both would be as long as they are.
+// Kept: two fills, twice: a function that clears both would be as long as they are. Their lengths are asked, since the public calls are lent any.
 fn settle(file: &[u8], conc: &mut [u32], flow: &mut [u32]) -> Result<Walked, Refused>
     requires { (length conc.old ≡ most_hours) × (length flow.old ≡ most_hours) }
     ensures { Settled file.now (walked_answer result) (walked_rows result) conc.new flow.new }
