@@ -10,19 +10,20 @@ ghost use Rattle.rules.specs.Account.{Promise};
 use rules::{Account, Refusal, Refused};
 
 // "Fewer than 7 cells per line lent for rows", with place 0.
+// Kept: written out: made by a function for place 0, neither the field nor its 0 would stand to be read.
 const TOO_FEW: Refused = Refused {
     refusal: Refusal::FewRowCells,
     place: 0,
 };
 
 // 8: "The first 2,208 work cells become zero", "cells past 2,208 are never written".
-#[tactic(auto, unfolding(rules::specs::Row::cells))]
+// Kept: two calls, and the lengths asked: `account` is lent two slices of any length.
 fn clear_work(concentrations: &mut [u32], flows: &mut [u32])
     requires { (most_hours ≤ length concentrations.old) × (most_hours ≤ length flows.old) }
     ensures { (concentrations.new ≡ cells [] ++ drop most_hours concentrations.old) × (flows.new ≡ cells [] ++ drop most_hours flows.old) }
 {
-    concentrations[..2208].fill(0);
-    flows[..2208].fill(0);
+    cells::clear_first(concentrations, 2208);
+    cells::clear_first(flows, 2208);
 }
 
 // The account of a record file. The rows are written at the very end, so that a refusal leaves them as they were.

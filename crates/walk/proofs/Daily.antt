@@ -40,6 +40,7 @@ use Rattle.line.specs.Put.{standing}
 use Rattle.line.specs.Days.{lacks_on, first_lacking}
 use Rattle.fills.specs.Weights.{products}
 use Rattle.fills.proofs.Products.{products-amounts}
+use Rattle.rules.specs.declared.World.TheVariants.{Water}
 use Rattle.walk.specs.declared.books.Sums.{Sums}
 use Rattle.walk.specs.Books.{in_cell, values_at, flag_at, state_of_slot, Open, in_open, CellsKept, SurveysKept, WaterBooks, Long}
 use Rattle.walk.specs.Taking.{pair_c, pair_l}
@@ -199,7 +200,7 @@ no_cells w f most z =
     record { hold = table_same (λ k. 0) (λ d. f (values_at (outfall_days (begun_outfall w)) d)) most_hours (λ k m. sym z); within = λ k. omega (arith, z) }
 
 pub begun_outfall-books : (w : Outfall) (ran measured states : List ℕ) → w.days ≤ most_days → (1 ≤ w.pollutant) × (w.pollutant ≤ total_cells)
-    → WaterBooks (begun_outfall w) (opened_sums (as_head w) true) (in_open ran measured states (table (λ k. false) most_hours) (table (λ k. 0) most_hours) (table (λ k. 0) most_hours))
+    → WaterBooks (begun_outfall w) (opened_sums (as_head w) Water) (in_open ran measured states (table (λ k. false) most_hours) (table (λ k. 0) most_hours) (table (λ k. 0) most_hours))
 unfolding begun_outfall states_of outfall_surveys surveyed_days besides as_head sum_of flag_at has_survey pick zeroes
 begun_outfall-books w ran measured states l p =
     record {
@@ -409,7 +410,7 @@ unfolding surveys_of
 more_surveys s [] = refl
 more_surveys s (t ∷ ts) = ap (λ (n : ℕ). record { count = n; floor = s.hour + 1 }) (add-one (length (t ∷ ts)))
 
-pub view_outfall : (done : List Line) (w : Outfall) → after_head (view_of (Between done)) (as_head w) true ≡ view_of (InWater (begun_outfall w) done)
+pub view_outfall : (done : List Line) (w : Outfall) → after_head (view_of (Between done)) (as_head w) Water ≡ view_of (InWater (begun_outfall w) done)
 unfolding view_of begun_outfall floor_of head_of_line surveys_of surveyed_days besides outfall_days put_on_days days_in_turn running_in missing_in sum_of
 view_outfall done w = refl
 

@@ -31,6 +31,7 @@ use Rattle.line.specs.declared.surveyed.Weighed.{Weighed}
 use Rattle.line.specs.Line.{row_in}
 use Rattle.line.specs.Put.{standing, nothing, survey_c, survey_l, PutAt}
 use Rattle.line.specs.Days.{lacks_on, first_lacking, DayPut}
+use Rattle.rules.specs.declared.World.TheVariants.{Water}
 use Rattle.walk.specs.declared.books.Sums.{Sums}
 use Rattle.walk.specs.declared.books.Taken.{Taken}
 use Rattle.walk.specs.declared.books.Marks.{Marks}
@@ -72,12 +73,12 @@ books_as x k a b = rw (a, b) k
 -- ---- a head
 pub kept-outfall : (done : List Line) (v : View) (s : Sums) (h : Outfall) (o : Open) (d : Done) (flags' : List Bool) (conc' flow' : List ℕ) (r : Taken)
     → Kept (Between done) v s o d → h.days ≤ most_days → (1 ≤ h.pollutant) × (h.pollutant ≤ total_cells) → length done < most_lines
-    → HeadTaken v s (as_head h) true o.flags o.concentrations o.flows flags' conc' flow' r
+    → HeadTaken v s (as_head h) Water o.flags o.concentrations o.flows flags' conc' flow' r
     → Kept (InWater (begun_outfall h) done) r.view r.sums (in_open o.runs o.measured o.states flags' conc' flow') d
 kept-outfall done v s h o d flags' conc' flow' r k days p room t =
-    let z = head_cleared k (as_head h) true flags' conc' flow' r t in
+    let z = head_cleared k (as_head h) Water flags' conc' flow' r t in
     record {
-      view = t.view ∙ ap (λ (u : View). after_head u (as_head h) true) k.view ∙ view_outfall done h;
+      view = t.view ∙ ap (λ (u : View). after_head u (as_head h) Water) k.view ∙ view_outfall done h;
       lines = omega arith;
       done = k.done;
       long = head_long k _ _ _ z;

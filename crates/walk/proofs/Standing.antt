@@ -29,6 +29,8 @@ use Rattle.rules.specs.Judge.{fine, judge_hours}
 use Rattle.rules.specs.Walk.{Between, Inside, view_of, begun, with_day, with_enforcement, with_plant, with_batch}
 use Rattle.day.specs.Day.{concentration_at, flow_at, hour_state}
 use Rattle.day.proofs.Laws.{PairAccepted, day_accepted, concentration-blank, flow-blank, concentration-most, flow-most}
+use Rattle.rules.specs.declared.World.{World}
+use Rattle.rules.specs.declared.World.TheVariants.{Air}
 use Rattle.walk.specs.declared.books.Sums.{Sums}
 use Rattle.walk.specs.declared.books.Taken.{Taken}
 use Rattle.walk.specs.declared.books.Marks.{Marks}
@@ -70,9 +72,9 @@ abbrev unflagged : List Bool
 unflagged = table (λ i. false) most_hours
 
 module _ {done : List Line} {v : View} {s : Sums} {o : Open} {d : Done} (k : Kept (Between done) v s o d) where
-  pub head_cleared : (h : Head) (water : Bool) (flags' : List Bool) (conc' flow' : List ℕ) (r : Taken) → HeadTaken v s h water o.flags o.concentrations o.flows flags' conc' flow' r
+  pub head_cleared : (h : Head) (world : World) (flags' : List Bool) (conc' flow' : List ℕ) (r : Taken) → HeadTaken v s h world o.flags o.concentrations o.flows flags' conc' flow' r
       → (flags' ≡ unflagged) × (conc' ≡ zeros) × (flow' ≡ zeros)
-  head_cleared h water flags' conc' flow' r t =
+  head_cleared h world flags' conc' flow' r t =
       let b = k.books in
       let l = k.long in (
         t.flags_now ∙ cleared_all false o.flags s.used b.flags_past l.flags b.used_most,
@@ -95,11 +97,11 @@ module _ {done : List Line} {v : View} {s : Sums} {o : Open} {d : Done} (k : Kep
 
 pub kept-head : (done : List Line) (v : View) (s : Sums) (h : Head) (o : Open) (d : Done) (flags' : List Bool) (conc' flow' : List ℕ) (r : Taken)
     → Kept (Between done) v s o d → h.days ≤ most_days → (1 ≤ h.pollutant) × (h.pollutant ≤ total_cells) → length done < most_lines
-    → HeadTaken v s h false o.flags o.concentrations o.flows flags' conc' flow' r → Kept (Inside (begun h) done) r.view r.sums (in_open o.runs o.measured o.states flags' conc' flow') d
+    → HeadTaken v s h Air o.flags o.concentrations o.flows flags' conc' flow' r → Kept (Inside (begun h) done) r.view r.sums (in_open o.runs o.measured o.states flags' conc' flow') d
 kept-head done v s h o d flags' conc' flow' r k days p room t =
-    let z = head_cleared k h false flags' conc' flow' r t in
+    let z = head_cleared k h Air flags' conc' flow' r t in
     record {
-      view = t.view ∙ ap (λ (u : View). after_head u h false) k.view ∙ view_head done h;
+      view = t.view ∙ ap (λ (u : View). after_head u h Air) k.view ∙ view_head done h;
       lines = omega arith;
       done = k.done;
       long = head_long k _ _ _ z;

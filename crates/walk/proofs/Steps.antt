@@ -27,6 +27,7 @@ use Rattle.rules.specs.Walk.{begun, with_day, with_enforcement, with_plant, with
 use Rattle.fuel.specs.Fuel.{ash_of}
 use Rattle.fuel.proofs.Batches.{in_range_none, in_range_more}
 use Rattle.walk.proofs.Cleared.{table_zero}
+use Rattle.rules.specs.declared.World.TheVariants.{Air}
 use Rattle.walk.specs.declared.books.Sums.{Sums}
 use Rattle.line.specs.Put.{standing}
 use Rattle.walk.specs.Views.{opened_sums, with_survey, with_fuel}
@@ -43,7 +44,7 @@ begun-cells h f most z =
     record { hold = table_same (λ k. 0) (λ k. f (values_at (hours (begun h)) k)) most_hours (λ k m. sym (none k)); within = λ k. omega (arith, none k) }
 
 pub begun-books : (h : Head) (runs measured states : List ℕ) → h.days ≤ most_days → (1 ≤ h.pollutant) × (h.pollutant ≤ total_cells)
-    → LineBooks (begun h) (opened_sums h false) (in_open runs measured states (table (λ k. false) most_hours) (table (λ k. 0) most_hours) (table (λ k. 0) most_hours))
+    → LineBooks (begun h) (opened_sums h Air) (in_open runs measured states (table (λ k. false) most_hours) (table (λ k. 0) most_hours) (table (λ k. 0) most_hours))
 unfolding begun table run_masks measured_masks surveys surveyed besides days_after put_surveys sulphur_of ash_of sum_of largest flag_at has_survey pick zeroes
 begun-books h runs measured states l p =
     record {

@@ -36,6 +36,7 @@ use Rattle.rules.proofs.Records.{day_in}
 use Rattle.day.proofs.Laws.{PairAccepted}
 use Rattle.judge.proofs.Laws.{SurveyOk, EndOk, head_ok, day_ok, enforcement_ok, plant_ok, batch-ok, end_ok, bad_refused, outfall_ok, water_day-ok, day_enforcement_ok, day_plant_ok}
 use Rattle.hours.proofs.Laws.{running-period, missing_period}
+use Rattle.rules.specs.declared.World.TheVariants.{Air, Water}
 use Rattle.walk.specs.declared.books.Sums.{Sums}
 use Rattle.walk.specs.declared.books.Taken.{Taken}
 use Rattle.walk.specs.declared.books.Marks.{Marks}
@@ -157,7 +158,7 @@ module _ (bytes : List ℕ) (v : View) (s : Sums) (o : Open) (d : Done) where
       (λ done y. (y.books.used_most, y.long.concentrations, y.long.flows)) k.kept
 
   pub took_head : (stand : Stand) (r : Record) (h : Head) (flags' : List Bool) (conc' flow' : List ℕ) (t : Taken) → r ≡ OfHead h → Ready stand bytes r v s o d
-      → HeadTaken v s h false o.flags o.concentrations o.flows flags' conc' flow' t → Took stand bytes r (Ok tt) t (in_open o.runs o.measured o.states flags' conc' flow') d
+      → HeadTaken v s h Air o.flags o.concentrations o.flows flags' conc' flow' t → Took stand bytes r (Ok tt) t (in_open o.runs o.measured o.states flags' conc' flow') d
   unfolding taken taken_between judge_readings
   took_head stand r h flags' conc' flow' t q k e =
       let ok = head_ok v (runs_of stand) h (judged stand r (OfHead h) q k) in
@@ -450,7 +451,7 @@ module _ (bytes : List ℕ) (v : View) (s : Sums) (o : Open) (d : Done) where
       (λ done y. (y.books.used_most, y.long.concentrations, y.long.flows)) k.kept
 
   pub took_outfall : (stand : Stand) (r : Record) (h : Outfall) (g : Head) (flags' : List Bool) (conc' flow' : List ℕ) (u : Taken) → r ≡ OfOutfallHead h → g ≡ as_head h → Ready stand bytes r v s o d
-      → HeadTaken v s g true o.flags o.concentrations o.flows flags' conc' flow' u → Took stand bytes r (Ok tt) u (in_open o.runs o.measured o.states flags' conc' flow') d
+      → HeadTaken v s g Water o.flags o.concentrations o.flows flags' conc' flow' u → Took stand bytes r (Ok tt) u (in_open o.runs o.measured o.states flags' conc' flow') d
   unfolding taken taken_between judge_readings
   took_outfall stand r h g flags' conc' flow' u q p k e =
       let ok = outfall_ok v (runs_of stand) h (judged stand r (OfOutfallHead h) q k) in
@@ -458,7 +459,7 @@ module _ (bytes : List ℕ) (v : View) (s : Sums) (o : Open) (d : Done) where
       (between-lines stand v k.kept.view ok.outside (λ a. Kept a v s o d → Kept (taken a bytes (OfOutfallHead h)) u.view u.sums (in_open o.runs o.measured o.states flags' conc' flow') d)
       (λ done y.
       kept-outfall done v s h o d flags' conc' flow' u y ok.days_most (omega (arith, ok.pollutant_least), ok.pollutant_most) (lines_left done v y.view ok.room)
-      (subst (λ (w : Head). HeadTaken v s w true o.flags o.concentrations o.flows flags' conc' flow' u) p e)) k.kept)
+      (subst (λ (w : Head). HeadTaken v s w Water o.flags o.concentrations o.flows flags' conc' flow' u) p e)) k.kept)
 
   -- ---- a day of an outfall
   pub ready_water_day : (stand : Stand) (r : Record) (t : WaterDay) → r ≡ OfOutfallDay t → Ready stand bytes r v s o d → WaterDayReady v t o.concentrations o.flows

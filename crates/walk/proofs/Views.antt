@@ -15,6 +15,7 @@ use Rattle.rules.specs.Lines.{StackLine, besides, surveyed, put_surveys, days_af
 use Rattle.rules.specs.Outfalls.{Line, OfStack, head_of_line}
 use Rattle.rules.specs.Walk.{Between, Inside, no_head, view_of, floor_of, surveys_of, begun, with_day, with_enforcement, with_plant, with_batch}
 use Rattle.walk.proofs.Hours.{after-day}
+use Rattle.rules.specs.declared.World.TheVariants.{Air}
 use Rattle.walk.specs.Views.{one_more, opened_view, after_head, after_day, after_enforcement, after_plant, after_batch, after_end}
 
 pub survey-count : (ss : List Survey) → (surveys_of ss).count ≡ length ss
@@ -31,7 +32,7 @@ pub view_start : opened_view false false 0 0 no_head ≡ view_of (Between [])
 unfolding view_of floor_of head_of_line surveys_of
 view_start = refl
 
-pub view_head : (done : List Line) (h : Head) → after_head (view_of (Between done)) h false ≡ view_of (Inside (begun h) done)
+pub view_head : (done : List Line) (h : Head) → after_head (view_of (Between done)) h Air ≡ view_of (Inside (begun h) done)
 unfolding view_of begun floor_of head_of_line surveys_of surveyed besides days_after put_surveys running lacking fuel sum_of
 view_head done h = refl
 

@@ -25,6 +25,7 @@ use Rattle.walk.specs.declared.books.Taken.{Taken}
 use Rattle.walk.specs.declared.books.Marks.{Marks}
 use Rattle.walk.specs.declared.books.Done.{Done}
 use Rattle.rules.specs.declared.Surveyor.{Surveyor}
+use Rattle.rules.specs.declared.World.{World}
 use Rattle.walk.specs.Views.{after_head, after_day, after_survey, beaten_by, flags_by, after_batch, after_end, after_water_day, opened_sums, with_survey, with_fuel}
 use Rattle.walk.specs.Closing.{grams_in, daily_grams, Limits, LineGrams, with_grams}
 use Rattle.fuel.specs.Fuel.{fuel_figure}
@@ -50,9 +51,9 @@ pub record SurveyReady (t : Survey) (count found : ℕ) (v : View) (s : Sums) : 
   pub weight : s.weight ≤ most_surveys * most_amount
 
 -- a head: the cells that the last line used are 0, and none of its flags stands
-pub record HeadTaken (v : View) (s : Sums) (h : Head) (water : Bool) (flags : List Bool) (conc flow : List ℕ) (flags' : List Bool) (conc' flow' : List ℕ) (r : Taken) : Type 0 where
-  pub view : r.view ≡ after_head v h water
-  pub sums : r.sums ≡ opened_sums h water
+pub record HeadTaken (v : View) (s : Sums) (h : Head) (world : World) (flags : List Bool) (conc flow : List ℕ) (flags' : List Bool) (conc' flow' : List ℕ) (r : Taken) : Type 0 where
+  pub view : r.view ≡ after_head v h world
+  pub sums : r.sums ≡ opened_sums h world
   pub flags_now : flags' ≡ replicate s.used false ++ drop s.used flags
   pub conc_now : conc' ≡ replicate s.used 0 ++ drop s.used conc
   pub flow_now : flow' ≡ replicate s.used 0 ++ drop s.used flow

@@ -1,5 +1,5 @@
 -- The view and the sums after each kind of record that is not refused.
-use Rattle.std.specs.Prelude.{ℕ, ◌+◌, ◌-◌, ◌*◌, max, Bool, true, false, not, List, get_or, set, eqb}
+use Rattle.std.specs.Prelude.{ℕ, ◌+◌, ◌-◌, ◌*◌, max, Bool, true, false, List, get_or, set, eqb}
 use Rattle.law.specs.Numbers.{hours_of_day}
 use Rattle.law.specs.Words.{pick}
 use Rattle.rules.specs.declared.Head.{Head}
@@ -15,6 +15,8 @@ use Rattle.line.specs.declared.surveyed.Weighed.{Weighed}
 use Rattle.walk.specs.declared.books.Sums.{Sums}
 use Rattle.rules.specs.declared.Surveyor.{Surveyor}
 use Rattle.rules.specs.declared.Surveyor.TheVariants.{Enforcement, Plant}
+use Rattle.rules.specs.declared.World.{World}
+use Rattle.rules.specs.declared.World.TheVariants.{Air, Water}
 
 -- no survey yet
 abbrev pub no_surveys : Surveys
@@ -39,8 +41,9 @@ opened_view inside water lines floor head =
     }
 
 -- a line of a stack is opened, or one of an outfall
-abbrev pub after_head : View → Head → Bool → View
-after_head v h water = opened_view (not water) water v.lines (key h + 1) h
+abbrev pub after_head : View → Head → World → View
+after_head v h Air = opened_view true false v.lines (key h + 1) h
+after_head v h Water = opened_view false true v.lines (key h + 1) h
 
 -- the view of the open line with what a record of it moves
 abbrev pub moved_view : View → ℕ → ℕ → ℕ → Surveys → Surveys → ℕ → ℕ → View
@@ -114,8 +117,12 @@ abbrev pub after_end : View → View
 after_end v = opened_view false false (v.lines + 1) v.floor no_head
 
 -- the sums of a line that is opened: its period's cells will be used
-abbrev pub opened_sums : Head → Bool → Sums
-opened_sums h water = record { surveyed = 0; weight = 0; sulphur = 0; ash = 0; used = pick water h.days (hours_of_day * h.days) }
+abbrev pub used_by : World → Head → ℕ
+used_by Air h = hours_of_day * h.days
+used_by Water h = h.days
+
+abbrev pub opened_sums : Head → World → Sums
+opened_sums h world = record { surveyed = 0; weight = 0; sulphur = 0; ash = 0; used = used_by world h }
 
 -- what a survey adds
 abbrev pub with_survey : Sums → Weighed → Sums

@@ -11,6 +11,7 @@ use crate::books::Sums;
 use fuel::NoFigure;
 use rules::{Method, View};
 
+// Kept: a figure that is refused gives 0, as `grams_in` of specs/ says; the judge refuses such a line before.
 #[tactic(auto, unfolding(fuel::specs::Fuel::fuel_on_paper))]
 fn grams_in(f: Result<u64, NoFigure>) -> u64
     ensures { result ≡ grams_in (fuel_on_paper f) }
@@ -30,6 +31,7 @@ fn weigh(conc: &[u32], flow: &[u32]) -> u64
 }
 
 // The sum of c x l over the n hours or days of the period.
+// Kept: n beside the tables: cut by the two callers, each would cut both and cite the limits of the sum.
 fn period_weight(conc: &[u32], flow: &[u32], n: usize) -> u64
     requires { (n ≤ length conc.now) × (n ≤ length flow.now) × (period_weight n conc.now flow.now < 2 ^ 64) }
     ensures { result ≡ period_weight n conc.now flow.now }
@@ -43,11 +45,12 @@ const HALF: u64 = 50_000;
 const HALF_OF_WATER: u64 = 50;
 
 // The sum of c x l over n hours or days and the units of a gram, halves up: half of the divisor is added first, so that nothing is doubled.
+// Kept: beside `halves_up` of fuel, which doubles: sums of c x l are to fit 64 bits in micrograms too (DECISIONS 37).
 fn grams_of(weight: u64, n: u32, halfgram: u64) -> u64
     requires { (0 < n) × (0 < halfgram) × (halfgram ≤ per_gram) × (weight ≤ most_surveys * most_amount * most_hours) }
     ensures { result ≡ halves_up weight (n * (2 * halfgram)) }
 {
-    let half = halfgram * (n as u64);
+    let half = halfgram * u64::from(n);
     (weight + half) / (2 * half)
 }
 
@@ -60,7 +63,7 @@ fn surveyed_grams(v: View, s: Sums, halfgram: u64) -> u64
 }
 
 // The grams of a line of an outfall by its method and its cells; no day is filled.
-// Kept: beside `line_grams`, since water has no fuel: one `match` for both would test the world in every arm.
+// Kept: beside `line_grams`, since water has no fuel: one `match` for both would test the world in every arm. `_` takes None, as in specs/ `daily_grams`.
 #[tactic(auto, unfolding(law::specs::Words::pick))]
 pub fn daily_grams(method: Option<Method>, v: View, s: Sums, conc: &[u32], flow: &[u32]) -> u64
     requires { DailyReady (method_number method) v s conc.now flow.now }
@@ -69,7 +72,7 @@ pub fn daily_grams(method: Option<Method>, v: View, s: Sums, conc: &[u32], flow:
     match method {
         Some(Method::Automatic) => {
             grams_of(
-                period_weight(conc, flow, v.head.days as usize),
+                period_weight(conc, flow, usize::from(v.head.days)),
                 1,
                 HALF_OF_WATER,
             )
@@ -79,6 +82,7 @@ pub fn daily_grams(method: Option<Method>, v: View, s: Sums, conc: &[u32], flow:
 }
 
 // The grams of a line by its method and its cells, which are filled under method 1.
+// Kept: `_` takes None too, as `line_grams` of specs/ does.
 #[tactic(auto, unfolding(law::specs::Words::pick))]
 pub fn line_grams(method: Option<Method>, v: View, s: Sums, conc: &[u32], flow: &[u32]) -> u64
     requires { GramsReady (method_number method) v s conc.now flow.now }
@@ -87,7 +91,7 @@ pub fn line_grams(method: Option<Method>, v: View, s: Sums, conc: &[u32], flow: 
     match method {
         Some(Method::Automatic) => {
             grams_of(
-                period_weight(conc, flow, 24 * (v.head.days as usize)),
+                period_weight(conc, flow, 24 * usize::from(v.head.days)),
                 1,
                 HALF,
             )
@@ -102,6 +106,6 @@ pub fn add_grams(totals: &mut [u64; 5], pollutant: u8, grams: u64)
     requires { (1 ≤ pollutant) × (pollutant ≤ total_cells) × (grams ≤ most_grams) × ((i : ℕ) → get_or totals.old i 0 ≤ most_lines * most_grams) }
     ensures { totals.new ≡ with_grams totals.old pollutant grams }
 {
-    let i = (pollutant - 1) as usize;
-    totals[i] = grams + totals[i];
+    let i = usize::from(pollutant - 1);
+    totals[i] += grams;
 }

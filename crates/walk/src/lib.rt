@@ -18,6 +18,7 @@ use crate::turns::walk_records;
 use rules::{Account, Refusal, Refused};
 
 // What the walk finds in a file that it accepts, with cells for the rows of 48 lines.
+// Kept: 336 cells beside the number of lines: `walk_file` promises all of them, 0 past the last line's.
 #[derive(Clone, Copy)]
 pub struct Walked {
     pub account: Account,
@@ -25,12 +26,14 @@ pub struct Walked {
 }
 
 // "A work slice under 2,208 cells", with place 0.
+// Kept: written out: made by a function for place 0, neither the field nor its 0 would stand to be read.
 const TOO_SHORT: Refused = Refused {
     refusal: Refusal::FewWorkCells,
     place: 0,
 };
 
 // The walk where both work tables have 2,208 cells, which a refusal leaves clear.
+// Kept: two fills, twice: a function that clears both would be as long as they are. Their lengths are asked, since the public calls are lent any.
 fn settle(file: &[u8], conc: &mut [u32], flow: &mut [u32]) -> Result<Walked, Refused>
     requires { (length conc.old ≡ most_hours) × (length flow.old ≡ most_hours) }
     ensures { Settled file.now (walked_answer result) (walked_rows result) conc.new flow.new }
