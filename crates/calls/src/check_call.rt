@@ -9,10 +9,8 @@ fn read_cells(s: &[u8], from: usize, cells: &mut [u64])
     requires { (from < 4_294_967_296) × (length cells.old < 4_294_967_296) }
     ensures { cells.new ≡ cells_at s.now from (length cells.old) }
 {
-    let mut at = from;
-    for cell in cells.iter_mut() {
-        *cell = field::u64_at(s, at);
-        at += 8;
+    for (i, cell) in cells.iter_mut().enumerate() {
+        *cell = field::u64_at(s, from + 8 * i);
     }
 }
 

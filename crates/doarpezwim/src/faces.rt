@@ -18,6 +18,7 @@ use rules::{Account, Refused};
 pub fn number<T>(said: &Result<T, Refused>) -> u32
     ensures { result ≡ (told said.now).number }
 {
+    // Kept: a `match` and no `map_or`, which of a lent Result takes `as_ref().err()` before it and is no plainer.
     match said {
         Ok(_) => 0,
         Err(f) => u32::from(f.refusal),

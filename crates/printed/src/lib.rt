@@ -29,6 +29,7 @@ pub fn answer_text(file: &[u8], text: &mut [u8]) -> usize
 }
 
 // What the program prints for an input: 13 comes before the file is looked at.
+// Kept: a count and no Option, likewise.
 pub fn program_text(input: &[u8], text: &mut [u8]) -> usize
     ensures text { Text (printed input.now) text.old text.new result }
     ensures upper_bound { result ≤ length text.new }

@@ -16,6 +16,7 @@ pub fn put_bytes(text: &mut [u8], at: usize, bytes: &[u8]) -> usize
 }
 
 // A number in decimal, and the byte behind it.
+// Kept: the room as a test of lengths here and below, and no cursor: `Wrote` speaks of the whole buffer and of the place behind what is written.
 fn put_number(text: &mut [u8], at: usize, n: u64, after: u8) -> usize
     requires { at + 21 ≤ length text.old }
     ensures { Wrote text.old at (decimal n ++ (after ∷ [])) text.new result }

@@ -1,17 +1,15 @@
 -- `calls::check_call::read_cells` meets its contract: the numbers are written from the front. Assumes nothing.
-use Rattle.std.proofs.Common.{ap, ◌∙◌, arith, rules}
-use Rattle.field.specs.Field.{u64}
+use Rattle.std.proofs.Common.{arith}
 use Rattle.calls.specs.Answers.{cells_at}
 use Rattle.calls.proofs.Puts.{filled_none, filled_more}
 use Rattle.calls.proofs.check_call.read_cells.Goals as goal
 
-pub loop-cell-init : goal.loop-cell-init
+pub loop-i-init : goal.loop-i-init
 unfolding cells_at
-loop-cell-init c = (filled_none _, search rules)
+loop-i-init c = filled_none _
 
-pub loop-cell-preserved : goal.loop-cell-preserved
+pub loop-i-preserved : goal.loop-i-preserved
 unfolding cells_at
-loop-cell-preserved c =
-    let l = c.loop-cell in
-    let at = l.invariant.1 in
-    (filled_more _ l.cells l.cell-index _ (omega (arith, c.loop-cell-test.true, l.auto.cells)) l.invariant.0 (c.u64_at.ensures ∙ ap (u64 c.args.s.now) at), omega (arith, at))
+loop-i-preserved c =
+    let l = c.loop-i in
+    filled_more _ l.cells l.i _ (omega (arith, c.loop-i-test.true, l.auto.cells)) l.invariant c.u64_at.ensures
