@@ -1,20 +1,17 @@
 -- Refusals and what they say on paper: every refusal has a number of its own, which is not 0, so that paper loses nothing. Assumes nothing.
 use Prim.Native.Nat.{ℕ}
-use mathlib.Core.Bool.{Bool, true, false, true≢false}
+use mathlib.Core.Bool.{false, true≢false}
 use mathlib.Core.Path.{◌≡◌, refl, sym, ap, ap₂, ◌∙◌}
 use lib.Dec.{eqb}
-use borrow.Author.Tests.{eqb-true}
-use Rattle.std.specs.Prelude.{Option, Some, None, Result, Ok, Err, unwrap_or}
+use Rattle.std.specs.Prelude.{Option, Some, None, Result, Ok, Err}
 use Rattle.law.specs.Words.{need, pick}
 use Rattle.rules.specs.declared.Refusal.{Refusal}
 use Rattle.rules.specs.declared.Refusal.TheVariants.{BadRecord, OutOfPlace, BadReading, StoppedHour, NoBatch, NoEntry, FewRowCells, FewWorkCells, TotalTooLarge, TooManyHours, UnlawfulPanel, TooLong, HeadField, MaskField, FuelField, PastPeriod, NoMethod, BadLine, OutOfRange, NoRoom, RowCount}
 use Rattle.rules.specs.declared.Method.{Method}
 use Rattle.rules.specs.declared.Method.TheVariants.{Automatic, Manual, Balance, Coefficient}
 use Rattle.rules.specs.declared.Refused.{Refused}
-use Rattle.rules.specs.declared.Account.{Account}
-use Rattle.rules.specs.Refusals.{method_number, Fault, number_of, fault_in, told, Answer, answered}
+use Rattle.rules.specs.Refusals.{method_number, Fault, number_of, fault_in, told}
 use Rattle.rules.specs.Judge.{fine, first}
-use Rattle.rules.proofs.Faults.{first_fine}
 
 -- ---- a refusal is read back from its number
 refusal_from : ℕ → Refusal
