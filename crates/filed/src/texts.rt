@@ -10,7 +10,7 @@ use crate::against::{WRONG_COUNT, against_account};
 use rules::{Refusal, Refused};
 use text::Said;
 
-// Kept: stated in `printed` too, beside its own test: the limit is of the programs, and no crate below the two speaks of it.
+// Kept: stated in `printed` too, beside its own test: the limit is of the programs, and no code below the two has it.
 const MOST_BYTES: usize = 65_536;
 
 // "Program only: input over 65,536 bytes", with place 0.
