@@ -16,6 +16,7 @@ fn valid_values(states: &[u8], values: &[u32]) -> ArrayVec<u32, 2208>
     ensures { result.items ≡ valids (row states.now values.now) }
 {
     let mut valid = ArrayVec::new();
+    // Kept: an index and no zip of both: tried, and what the push asks of the room stayed open, since the turns of a zip have no number.
     for i in 0..states.len() {
         if states[i] == MEASURED {
             valid.push(values[i]);
