@@ -28,6 +28,16 @@ abbrev pub patched : List ℕ → ℕ → ℕ → ℕ → List ℕ → List ℕ
 patched states v first next values =
     take first values ++ over (spot (drop first states) v (drop first values)) (next - first) (drop first values)
 
+-- each hour has its cell in four slices
+abbrev pub Roomy : List ℕ → List ℕ → List ℕ → List ℕ → List ℕ → Type 0
+Roomy states concentrations flows cs ls =
+    (length states ≤ length concentrations) × (length states ≤ length flows) × (length states ≤ length cs) × (length states ≤ length ls)
+
+-- the first r cells hold the valid values of both quantities
+abbrev pub Gathered : List ℕ → List ℕ → List ℕ → List ℕ → List ℕ → ℕ → Type 0
+Gathered states concentrations flows cs ls r =
+    (r ≤ length states) × (take r cs ≡ valids (row states concentrations)) × (take r ls ≡ valids (row states flows))
+
 -- every valid value stands by itself, and each hour has its cell
 abbrev pub Aside : List ℕ → List ℕ → List ℕ → List ℕ → List ℕ → Type 0
 Aside states concentrations flows cs ls =

@@ -1,28 +1,37 @@
 // The gaps of a line's two quantities. A state is 2 for a measured hour and 1 for a missing one; with any other the hour is stopped.
 ghost use Rattle.std.specs.Prelude.{◌≡◌, [], ◌≤◌, length};
 ghost use Rattle.law.specs.Numbers.{most_hours};
-ghost use Rattle.rules.specs.Slots.{valids};
-ghost use Rattle.fills.specs.Gaps.{row};
-ghost use Rattle.fills.specs.Parts.{patched, Aside, FilledBoth, gap_fill};
+ghost use Rattle.fills.specs.Parts.{patched, Roomy, Gathered, Aside, FilledBoth, gap_fill};
 ghost use Rattle.fills.specs.Windows.{Peaked};
 
 use crate::fill::fill_of;
 use crate::stretch::{Gap, MEASURED, MISSING, filler, run_end, scan};
 use arrayvec::ArrayVec;
 
-// The valid values of one quantity, in the order of the hours.
-fn valid_values(states: &[u8], values: &[u32]) -> ArrayVec<u32, 2208>
-    requires { (length states.now ≤ most_hours) × (length states.now ≤ length values.now) }
-    ensures { result.items ≡ valids (row states.now values.now) }
+// The valid values of both quantities, in their order, into the first cells of `cs` and `ls`; how many there are.
+// Kept: arrays and a count: an `ArrayVec` of each, gathered alone, was tried and proved: 166,073 instructions for 146,542 of 500 dark hours, and 0.77 of the
+// reference's time, past the bar of 0.76, for 0.65.
+fn gather(
+    states: &[u8],
+    concentrations: &[u32],
+    flows: &[u32],
+    cs: &mut [u32],
+    ls: &mut [u32],
+) -> usize
+    requires { Roomy states.now concentrations.now flows.now cs.old ls.old }
+    ensures { Gathered states.now concentrations.now flows.now cs.new ls.new result }
 {
-    let mut valid = ArrayVec::new();
-    // Kept: an index and no zip of both: tried, and what the push asks of the room stayed open, since the turns of a zip have no number.
+    let mut b = 0;
+    // Kept: a chain is no plainer, since an hour has its cell in three slices, and is written at another place of two.
     for i in 0..states.len() {
-        if states[i] == MEASURED {
-            valid.push(values[i]);
+        if states[i] != MEASURED {
+            continue;
         }
+        cs[b] = concentrations[i];
+        ls[b] = flows[i];
+        b += 1;
     }
-    valid
+    b
 }
 
 // The valid values of one quantity, in the order of the hours, and their peaks so far.
@@ -95,7 +104,8 @@ pub fn fill_gaps(states: &[u8], concentrations: &mut [u32], flows: &mut [u32])
     ensures { FilledBoth states.now concentrations.old flows.old concentrations.new flows.new }
 {
     // The valid values are kept aside before a cell is written, so that no fill feeds another.
-    let cs = valid_values(states, concentrations);
-    let ls = valid_values(states, flows);
-    fill_along(states, concentrations, flows, cs.as_slice(), ls.as_slice());
+    let mut cs = [0u32; 2208];
+    let mut ls = [0u32; 2208];
+    let count = gather(states, concentrations, flows, &mut cs, &mut ls);
+    fill_along(states, concentrations, flows, &cs[..count], &ls[..count]);
 }
