@@ -9,8 +9,8 @@ use crate::stretch::{Gap, MEASURED, MISSING, filler, run_end, scan};
 use arrayvec::ArrayVec;
 
 // The valid values of both quantities, in their order, into the first cells of `cs` and `ls`; how many there are.
-// Kept: arrays and a count: an `ArrayVec` of each, gathered alone, was tried and proved: 166,073 instructions for 146,542 of 500 dark hours, and 0.77 of the
-// reference's time, past the bar of 0.76, for 0.65.
+// Kept: arrays and a count: an `ArrayVec` of each, gathered alone, was tried and proved: 166,073 instructions for 152,840 of 500 dark hours, and 0.77 of the
+// reference's time, past the bar of 0.76, for 0.71.
 fn gather(
     states: &[u8],
     concentrations: &[u32],
@@ -22,7 +22,7 @@ fn gather(
     ensures { Gathered states.now concentrations.now flows.now cs.new ls.new result }
 {
     let mut b = 0;
-    // Kept: a chain is no plainer, since an hour has its cell in three slices, and is written at another place of two.
+    // Kept: an index and no zip: with the zip of two, tried, what is written behind the turn stayed open, and here there are three and two that are written.
     for i in 0..states.len() {
         if states[i] != MEASURED {
             continue;
