@@ -1,4 +1,5 @@
 // The program: a record file on standard input, its answer on standard output.
+// Kept: buffers with a count, by a rule of the project: a fixed memory, no heap.
 #![tactic(auto)]
 
 mod answer;

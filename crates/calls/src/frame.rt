@@ -1,4 +1,5 @@
 // One frame: its header and its bytes read, its call made, its answer written.
+// Kept: buffers with a count, by a rule of the project: a fixed memory, no heap.
 use crate::{account_call, check_call, filed_call, import_call, panel_call, survey_call};
 use std::io;
 use std::io::Read;

@@ -1,4 +1,5 @@
 // Lists of cells: cleared and written from the front.
+// Kept: three calls over std's `fill`, `min` and `copy_from_slice`: public calls, whose promises and edits stay.
 #![tactic(auto)]
 
 ghost use Rattle.std.specs.Prelude.{◌≡◌, min, length, get_or};

@@ -1,5 +1,6 @@
 // The program: a record file and the text of a filing on standard input, what is said of the filing on standard output. Before the file stand four bytes, its
 // length, little-endian; the text is what comes behind it.
+// Kept: buffers with a count, by a rule of the project: a fixed memory, no heap.
 #![tactic(auto)]
 
 use std::env::FillError;

@@ -10,7 +10,7 @@ use rules::{Refusal, Refused};
 use walk::Walked;
 
 // "Wrong row count", with place 0.
-// Kept: place 0 written out: a maker of `Refused` at the start would say no more than the field does.
+// Kept: place 0 written out: a call for it would hide the 0 and be no plainer.
 pub const WRONG_COUNT: Refused = Refused {
     refusal: Refusal::RowCount,
     place: 0,
@@ -22,6 +22,7 @@ pub fn against_account(w: &Walked, rows: &[u64], totals: &[u64; 5]) -> Result<Ve
     ensures { CheckedBy w.now rows.now totals.now (verdict_on_paper result) }
 {
     let right = &w.rows[..7 * w.account.lines];
+    // Kept: no `ensure` by `?`, here and in texts.rt: in `round_day` of day it was tried, and of the lengths behind it no proof knew enough.
     if rows.len() != right.len() {
         return Err(WRONG_COUNT);
     }

@@ -7,7 +7,7 @@ ghost use Rattle.filed.specs.Parts.{differing, FirstOrNone};
 use crate::Verdict;
 
 // Whether all cells are alike: no bit of any differs. Each is looked at, whatever the others are, so that the compiler takes several at a time.
-// Kept: a fold and no `==`, which ends at the first difference: a check asked so went from 1.055 to 1.051 (docs/SPEED.md); `==` of slices is not measured.
+// Kept: a fold and no `==`, which ends at the first difference: the edit `difference_lost` tries that all cells are asked at once, for speed (docs/SPEED.md).
 fn all_alike(filed: &[u64], right: &[u64]) -> bool
     ensures { result ≡ (differing filed.now right.now == 0) }
 {

@@ -14,7 +14,7 @@ use text::Said;
 const MOST_BYTES: usize = 65_536;
 
 // "Program only: input over 65,536 bytes", with place 0.
-// Kept: place 0 written out, as in `WRONG_COUNT`.
+// Kept: place 0 written out: a call for it would hide the 0 and be no plainer.
 const TOO_LONG: Refused = Refused {
     refusal: Refusal::TooLong,
     place: 0,

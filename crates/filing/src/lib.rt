@@ -30,7 +30,7 @@ pub fn read_filing(text: &[u8], rows: &mut [u64]) -> Filing
     let mut rest = text;
     let mut line: usize = 1;
     let mut count: usize = 0;
-    // Kept: `loop`, since only the line that is read says how far a turn goes.
+    // Kept: `loop`: only the line that is read says how far a turn goes, so that a `for` would be no plainer.
     loop {
         if let Some(figures) = rest.strip_prefix(TOTAL) {
             return Filing {

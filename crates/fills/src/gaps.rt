@@ -22,7 +22,7 @@ fn gather(
     ensures { Gathered states.now concentrations.now flows.now cs.new ls.new result }
 {
     let mut b = 0;
-    // Kept: an index and no zip: with the zip of two, tried, what is written behind the turn stayed open, and here there are three and two that are written.
+    // Kept: an index and no zip: a push behind a zip of two was tried, and what it asks of the room stayed open.
     for i in 0..states.len() {
         if states[i] != MEASURED {
             continue;
@@ -98,7 +98,7 @@ fn fill_along(states: &[u8], concentrations: &mut [u32], flows: &mut [u32], cs: 
 }
 
 // The missing hours of both quantities filled, of which each hour has its cells.
-// Kept: three tables side by side: `fill_period` has them so from its caller.
+// Kept: three tables side by side, the C interface: `doarpezwim_account` lends concentrations and flows as two.
 pub fn fill_gaps(states: &[u8], concentrations: &mut [u32], flows: &mut [u32])
     requires { (length states.now ≤ most_hours) × (length states.now ≤ length concentrations.old) × (length states.now ≤ length flows.old) }
     ensures { FilledBoth states.now concentrations.old flows.old concentrations.new flows.new }

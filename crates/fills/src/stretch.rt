@@ -17,7 +17,7 @@ pub struct Gap {
 }
 
 // What a scan from an hour on finds.
-// Kept: the hour beside the whole row: `Scanned` and `Measured` speak of the hours of the period, and a part lent from there on would count from its own start.
+// Kept: the hour beside the whole row: `Scanned` and `Measured` speak of the hours of the period, and a part lent from there on, as an `enumerate`, counts anew.
 // One loop: a `position` with a `filter` and `count` behind it would go over the gap twice, and is no plainer.
 pub fn scan(states: &[u8], first: usize) -> Gap
     requires { first ≤ length states.now }
@@ -59,7 +59,7 @@ pub fn run_end(states: &[u8], first: usize) -> usize
 }
 
 // `v` into the missing hours of a part.
-// Kept: of a write through a zip of `iter_mut` no proof knows what the slice holds.
+// Kept: of a write through a zip of `iter_mut` no proof knows what the slice holds, and `enumerate` would index the other.
 pub fn filler(part: &mut [u32], states: &[u8], v: u32)
     requires { length part.old ≤ length states.now }
     ensures { part.new ≡ over (spot states.now v part.old) (length part.old) part.old }

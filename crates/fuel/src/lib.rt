@@ -55,7 +55,7 @@ fn figure(h: Head, kg: u64, sulphur: u16, ash: u64) -> Result<u64, NoFigure>
 }
 
 // The grams of a line from its kg, its largest sulphur and its sum of kg x ash.
-// Kept: the limits stand in `judge` too, for a record's fields: neither crate stands on the other, and `fuel_figure` promises them for every call.
+// Kept: the limits stand in `judge` too, for a record's fields: `fuel_figure` promises them for every call, and a shared constant for two lines is no plainer.
 #[tactic(auto, unfolding(crate::specs::Fuel::fuel_figure, crate::specs::Fuel::fuel_on_paper, law::specs::Words::need_all, law::specs::Words::need))]
 pub fn fuel_figure(h: Head, kg: u64, sulphur: u16, ash: u64) -> Result<u64, NoFigure>
     ensures { fuel_on_paper result ≡ fuel_figure h kg sulphur ash }

@@ -1,4 +1,5 @@
 // The program: the historian's text on standard input, its day records on standard output.
+// Kept: buffers with a count, by a rule of the project: a fixed memory, no heap.
 #![tactic(auto)]
 
 use rules::{Refusal, Refused};
@@ -39,7 +40,7 @@ fn main(rt: HostRuntime) -> io::Result<()> {
         return err.write_all(b"historian: the input could not be read, nothing is written\n");
     };
     if n > 65536 {
-        // Kept: a refusal at place 0 written out: a constructor for it would be a public call of its own, no plainer.
+        // Kept: place 0 written out: a call for it would hide the 0 and be no plainer.
         let refusal = Refusal::TooLong;
         return refuse(&err, Refused { refusal, place: 0 });
     }

@@ -18,6 +18,7 @@ fn is_open(world: World, v: View) -> bool
 }
 
 // The hours or days of the line's period.
+// Kept: beside `used_by` of walk: a method of World in `rules` would be a public call more with promise and edits of its own, no plainer.
 fn period(world: World, v: View) -> u32
     ensures { result ≡ period_of world v }
 {
@@ -48,6 +49,7 @@ fn runs_on(states: &[u32], day: u16) -> bool
 
 // Outside a line of its world, before the last day, after fuel, not rising within its kind, one too many: "at most 120 surveys of both kinds together". An
 // enforcement survey has no plant survey before it.
+// Kept: the flag beside the view, as `place_survey` of specs/ takes it.
 fn place_survey(by: Surveyor, inside: bool, v: View, s: Survey) -> Result<(), Refused>
     ensures { told result ≡ place_survey by inside v s }
 {

@@ -10,7 +10,8 @@ use rules::{Refusal, Refused};
 use text::Said;
 
 // No longer input is looked at.
-// Kept: here and in filed, each its own: `program_text` and `filed_text` promise their limits apart, and a crate for one number is no plainer.
+// Kept: here and in filed, each its own: `program_text` and `filed_text` promise their limits apart; a public constant of `text`, which tests no input, is no
+// plainer.
 const MOST_BYTES: usize = 65536;
 
 // The text of a file's answer, for a file of any length; 0 where the buffer could be too short.
@@ -35,7 +36,7 @@ pub fn program_text(input: &[u8], text: &mut [u8]) -> usize
     ensures upper_bound { result ≤ length text.new }
 {
     if input.len() > MOST_BYTES {
-        // Kept: a refusal at place 0 written out: a constructor for it would be a public call of its own, no plainer.
+        // Kept: place 0 written out: a call for it would hide the 0 and be no plainer.
         let too_long = Refused {
             refusal: Refusal::TooLong,
             place: 0,

@@ -10,7 +10,7 @@ ghost use Rattle.rules.specs.Account.{Promise};
 use rules::{Account, Refusal, Refused};
 
 // "Fewer than 7 cells per line lent for rows", with place 0.
-// Kept: written out: made by a function for place 0, neither the field nor its 0 would stand to be read.
+// Kept: place 0 written out: a call for it would hide the 0 and be no plainer.
 const TOO_FEW: Refused = Refused {
     refusal: Refusal::FewRowCells,
     place: 0,

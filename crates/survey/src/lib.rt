@@ -5,6 +5,7 @@ ghost use Rattle.std.specs.Prelude.{◌≡◌, ℕ, ◌+◌, ◌*◌, ◌/◌, �
 ghost use Rattle.survey.specs.Governing.{is_survey, here, governing};
 
 // The kinds of a survey, as a record's second field has them.
+// Kept: numbers and no enum: `is_survey` compares them with the record's bytes; `Surveyor` stands in `rules`, on which this crate does not stand.
 const ENFORCEMENT: u16 = 3;
 
 const PLANT: u16 = 4;

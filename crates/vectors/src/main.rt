@@ -1,4 +1,5 @@
 // Answers every file of a corpus: each comes on standard input with its length in four bytes before it, little-endian.
+// Kept: buffers with a count, by a rule of the project: a fixed memory, no heap.
 #![tactic(auto)]
 
 use std::io;

@@ -31,7 +31,7 @@ fn weigh(conc: &[u32], flow: &[u32]) -> u64
 }
 
 // The sum of c x l over the n hours or days of the period.
-// Kept: n beside the tables: cut by the two callers, each would cut both and cite the limits of the sum.
+// Kept: n beside the tables: cut by the two callers, each would cut both and cite the limits of the sum, which is no plainer.
 fn period_weight(conc: &[u32], flow: &[u32], n: usize) -> u64
     requires { (n ≤ length conc.now) × (n ≤ length flow.now) × (period_weight n conc.now flow.now < 2 ^ 64) }
     ensures { result ≡ period_weight n conc.now flow.now }
@@ -63,7 +63,8 @@ fn surveyed_grams(v: View, s: Sums, halfgram: u64) -> u64
 }
 
 // The grams of a line of an outfall by its method and its cells; no day is filled.
-// Kept: beside `line_grams`, since water has no fuel: one `match` for both would test the world in every arm. `_` takes None, as in specs/ `daily_grams`.
+// Kept: beside `line_grams`, since water has no fuel: one `match` for both would test the world in every arm. `_` takes None, as `daily_grams` of specs/, which
+// takes view and sums apart too.
 #[tactic(auto, unfolding(law::specs::Words::pick))]
 pub fn daily_grams(method: Option<Method>, v: View, s: Sums, conc: &[u32], flow: &[u32]) -> u64
     requires { DailyReady (method_number method) v s conc.now flow.now }

@@ -26,14 +26,15 @@ pub struct Walked {
 }
 
 // "A work slice under 2,208 cells", with place 0.
-// Kept: written out: made by a function for place 0, neither the field nor its 0 would stand to be read.
+// Kept: place 0 written out: a call for it would hide the 0 and be no plainer.
 const TOO_SHORT: Refused = Refused {
     refusal: Refusal::FewWorkCells,
     place: 0,
 };
 
 // The walk where both work tables have 2,208 cells, which a refusal leaves clear.
-// Kept: two fills, twice: a function that clears both would be as long as they are. Their lengths are asked, since the public calls are lent any.
+// Kept: two fills, twice: a function that clears both would be as long as they are. Slices with their length asked, here and in what they are lent on to, and
+// no arrays: `walk_file` is lent slices, and what is written back through an array cut from one would be a clause more of each, no plainer.
 fn settle(file: &[u8], conc: &mut [u32], flow: &mut [u32]) -> Result<Walked, Refused>
     requires { (length conc.old ≡ most_hours) × (length flow.old ≡ most_hours) }
     ensures { Settled file.now (walked_answer result) (walked_rows result) conc.new flow.new }

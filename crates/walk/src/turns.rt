@@ -68,12 +68,13 @@ pub fn walk_records(file: &[u8], conc: &mut [u32], flow: &mut [u32]) -> Result<W
         sums: Sums::default(),
     };
     let mut at = 0;
-    // Kept: a `while`, since each record says where the next begins.
+    // Kept: a `while`: each record says where the next begins, so that a `for` would be no plainer.
     while at < file.len() {
         let bytes = &file[at..];
         step(bytes, &mut t, &mut marks, conc, flow, &mut done).map_err(|f| behind(f, at))?;
         at += record::size_in(bytes);
     }
+    // Kept: no `ensure` by `?`: tried, and behind it the promise stayed open.
     if t.view.inside | t.view.water {
         return Err(Refused {
             refusal: Refusal::OutOfPlace,
