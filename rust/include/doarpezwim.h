@@ -45,11 +45,11 @@ extern "C" {
 #define DOARPEZWIM_CHECK_CELLS 3
 
 /*
- * Bytes of stack that a call needs: doarpezwim_check takes 23,264, of which 17,664 are its work cells, and the walk that it
- * calls 30,296 more, 53,560 in all; doarpezwim_account takes 5,568 and the same, 35,864; the import takes 376, the
- * panel's and the survey's calls less than 100. Measured, not proved: read off the machine code of libdoarpezwim.a, and
- * seen on a stack that was painted. The number below is what an earlier archive needed, 56 more. Where memset and memcpy
- * of the C library are bound at their first call, the loader takes some more for itself.
+ * Bytes of stack that a call needs: doarpezwim_check takes 23,248, of which 17,664 are its work cells, and the walk that it
+ * calls 29,712 more, 52,960 in all; doarpezwim_account takes 8,288 and the same, 38,000; the import takes 312, the
+ * panel's and the survey's calls less than 100. Measured, not proved: read off the machine code of libdoarpezwim.a. The
+ * number below is what an earlier archive needed, 656 more. Where memset and memcpy of the C library are bound at their
+ * first call, the loader takes some more for itself.
  */
 #define DOARPEZWIM_STACK_BYTES 53616
 

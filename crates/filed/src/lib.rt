@@ -25,8 +25,12 @@ pub enum Verdict {
 pub fn check_filed(file: &[u8], rows: &[u64], totals: &[u64; 5]) -> Result<Verdict, Refused>
     ensures { verdict_on_paper result ≡ checked file.now rows.now totals.now }
 {
-    let w = walk::walk_unlent(file)?;
-    against_account(&w, rows, totals)
+    let walked = walk::walk_unlent(file);
+    // Kept: no `?`, which was tried: it laid the table of rows on the stack once more, past what the C header says that a call takes.
+    match &walked {
+        Ok(w) => against_account(w, rows, totals),
+        Err(f) => Err(*f),
+    }
 }
 
 // What the program says of a record file and the text of a filing: 13 comes before either is looked at.
