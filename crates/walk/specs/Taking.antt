@@ -72,6 +72,7 @@ pub record DayTaken (bytes : List ℕ) (v : View) (s : Sums) (m : Masks) (runs m
 pub record DayRead (bytes : List ℕ) (v : View) (s : Sums) (m : Masks) (k : Marks) (conc flow : List ℕ) (k' : Marks) (conc' flow' : List ℕ) (r : Result Unit Refused) (t : Taken) : Type 0 where
   pub faults : told r ≡ judge_hours (day_of bytes)
   pub takes : r ≡ Ok tt → DayTaken bytes v s m k.runs k.measured k.states conc flow k'.runs k'.measured k'.states conc' flow' t
+  pub sums : t.sums ≡ s
   pub flags_stay : k'.flags ≡ k.flags
 
 -- a survey of an hour: a plant survey is beaten where an enforcement survey stands
