@@ -3,7 +3,7 @@ ghost use Rattle.std.specs.Prelude.{◌≡◌};
 ghost use Rattle.rules.specs.Tables.{at, q, k};
 
 // "q (0.1 %, table 1)", a row for each furnace, by coal.
-const Q1: [Option<u32>; 7] = [
+static Q1: [Option<u32>; 7] = [
     Some(40),
     Some(20),
     Some(20),
@@ -13,12 +13,12 @@ const Q1: [Option<u32>; 7] = [
     Some(25),
 ];
 
-const Q2: [Option<u32>; 5] = [Some(20), None, Some(10), Some(10), Some(5)];
+static Q2: [Option<u32>; 5] = [Some(20), None, Some(10), Some(10), Some(5)];
 
-const Q3: [Option<u32>; 4] = [Some(25), None, Some(20), Some(20)];
+static Q3: [Option<u32>; 4] = [Some(25), None, Some(20), Some(20)];
 
 // "K (0.01, table 2)", by furnace.
-const K: [Option<u32>; 3] = [Some(90), Some(90), Some(85)];
+static K: [Option<u32>; 3] = [Some(90), Some(90), Some(85)];
 
 // Place 1, 2, .. of a row, and none at 0 or past its end.
 // Kept: the place as the head's byte: `coefficients` answers every head, and a byte that is no code has no entry.
