@@ -35,7 +35,12 @@ pub fn account(
 ) -> Result<Account, Refused>
     ensures { Promise file.now rows.old concentrations.old flows.old (answered result) rows.new concentrations.new flows.new }
 {
-    let walked = walk::walk_file(file, concentrations, flows)?;
+    let walked = walk::walk_file(file, concentrations, flows);
+    // Kept: no `?`, which was tried: it lays the table of rows on the stack once more.
+    let walked = match &walked {
+        Ok(w) => w,
+        Err(f) => return Err(*f),
+    };
     let n = 7 * walked.account.lines;
     if rows.len() < n {
         clear_work(concentrations, flows);
