@@ -46,10 +46,10 @@ extern "C" {
 
 /*
  * Bytes of stack that a call needs: doarpezwim_check takes 23,248, of which 17,664 are its work cells, and the walk that it
- * calls 29,712 more, 52,960 in all; doarpezwim_account takes 8,288 and the same, 38,000; the import takes 312, the
- * panel's and the survey's calls less than 100. Measured, not proved: read off the machine code of libdoarpezwim.a. The
- * number below is what an earlier archive needed, 656 more. Where memset and memcpy of the C library are bound at their
- * first call, the loader takes some more for itself.
+ * calls 29,200 more, 52,448 in all; doarpezwim_account takes 5,616 and the same, 34,816; the import takes 312, the
+ * panel's and the survey's calls less than 100. Measured, not proved: read off the machine code of libdoarpezwim.a, and
+ * seen on a stack that was painted. The number below is what an earlier archive needed, 1,168 more. Where memset and memcpy
+ * of the C library are bound at their first call, the loader takes some more for itself.
  */
 #define DOARPEZWIM_STACK_BYTES 53616
 
