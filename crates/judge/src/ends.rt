@@ -12,7 +12,7 @@ fn judge_entry(entry: Option<Coefficients>) -> Result<(), Refused>
     ensure(entry.is_some(), Refusal::NoEntry, 0)
 }
 
-// "6, then 7, at the line's end record", for methods 3 and 4. The head is copied out, and only here: else the whole view is laid out in memory at every end.
+// "6, then 7, at the line's end record", for methods 3 and 4.
 fn judge_fuel(v: View) -> Result<(), Refused>
     ensures { told result ≡ judge_fuel v }
 {

@@ -1,4 +1,4 @@
--- A row of the code, place by place; and the first row of table A.1 whose lower bound is reached. Assumes nothing.
+-- A row of the code, place by place; and that a row of dashes has no oxides. Assumes nothing.
 use Prim.Native.Nat.{ℕ, zero, suc, ◌-◌, ◌≤◌}
 use mathlib.Core.List.{List, [], ◌∷◌}
 use mathlib.Core.Path.{◌≡◌, refl, ap, ◌∙◌}

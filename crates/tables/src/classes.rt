@@ -70,8 +70,8 @@ const FROM_9: ClassRow = ClassRow {
 };
 
 // The row of an MW.
-// Kept: a match and no table that is searched: a constant table is laid on the stack at each call (480 bytes, five times the instructions), and a `static` of rows
-// that hold arrays is not covered by the check.
+// Kept: a match and no table that is searched: a constant table is laid on the stack at each call (480 bytes, five times the instructions), and a
+// `static` of rows that hold arrays is not covered by the check.
 #[tactic(auto, unfolding(rules::specs::Tables::class_of, rules::specs::Tables::table_a1, rules::specs::Tables::class, law::specs::Words::pick))]
 pub fn size_class(mw: u16) -> Option<ClassRow>
     ensures { size_class_of result ≡ class_of mw table_a1 }
